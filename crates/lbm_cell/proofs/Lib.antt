@@ -1,0 +1,5 @@
+pub mod Sizes
+pub mod Conservation
+pub mod Bounds
+pub mod Limits
+pub mod FirstSizes

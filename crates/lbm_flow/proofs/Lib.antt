@@ -1,0 +1,10 @@
+pub mod Reading
+pub mod Tables
+pub mod Spelled
+pub mod SameMoments
+pub mod SmallMoments
+pub mod Streaming
+pub mod Stepping
+pub mod Turning
+pub mod Stepped
+pub mod Deciding

@@ -1,0 +1,11 @@
+pub mod Words
+pub mod CaseFile
+pub mod Fields
+pub mod Plain
+pub mod Lattices
+pub mod Run
+pub mod Outcome
+pub mod Lines
+pub mod Answer
+pub mod Files
+pub mod Finishing

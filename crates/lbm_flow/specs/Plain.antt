@@ -1,0 +1,25 @@
+-- A step of two plain lattices.
+use Rattle.std.specs.Prelude.{◌≡◌, ◌≢◌, ℕ, ◌+◌, ◌*◌, ◌<◌, List, length, ℤ, pos, slice_index_or, Option, Some, None, Result, Ok, Err}
+use Rattle.lbm_model.specs.Case.{FlowCase, target}
+use Rattle.lbm_model.specs.State.{FlowState}
+use Rattle.lbm_model.specs.Flow.{IsStateOf, next, out_of_limits, first, run, reached, range}
+use Rattle.lbm_flow.specs.declared.answer.End.{End}
+use Rattle.lbm_flow.specs.declared.answer.End.TheVariants.{Range, Memory}
+
+-- the state that the run reaches, or where it is out of limits, or memory ran out
+abbrev pub Runs : FlowCase → ℕ → Result FlowState End → Type 0
+Runs case steps (Ok s) = (run case (first case) 0 steps ≡ reached s) × IsStateOf case s
+Runs case steps (Err (Range step cell)) = run case (first case) 0 steps ≡ range step cell
+Runs case steps (Err Memory) = Unit {0}
+Runs case steps (Err end) = ⊥
+
+-- the other lattice holds the next state, or a cell is out of limits
+abbrev pub Steps : FlowCase → FlowState → List ℤ → Option ℕ → Type 0
+Steps case s after None = (out_of_limits case s ≡ None) × (after ≡ (next case s).numbers)
+Steps case s after (Some cell) = out_of_limits case s ≡ Some cell
+
+-- the first n directions of what a cell sends have arrived, and nothing else has changed
+pub record Streams (case : FlowCase) (cell : ℕ) (sent : ℕ → ℤ) (n : ℕ) (before after : List ℤ) : Type 0 where
+  pub sized : length after ≡ length before
+  pub arrived : (i : ℕ) → i < n → slice_index_or after (target case cell i * case.stencil.directions + i) (pos 0) ≡ sent i
+  pub others : (k : ℕ) → ((i : ℕ) → i < n → k ≢ target case cell i * case.stencil.directions + i) → slice_index_or after k (pos 0) ≡ slice_index_or before k (pos 0)

@@ -1,0 +1,11 @@
+pub mod SetLaws
+pub mod Moving
+pub mod Gains
+pub mod Sizes
+pub mod Neighbours
+pub mod Least
+pub mod Mass
+pub mod SmallStates
+pub mod Local
+pub mod FirstLemmas
+pub mod Worked

@@ -1,0 +1,24 @@
+//! What a flow is: a case, its states, the first state, the next one, and a run.
+#![tactic(auto)]
+
+pub mod case;
+pub mod cell;
+pub mod first;
+pub mod gate;
+pub mod laws;
+pub mod pattern;
+pub mod sets;
+pub mod state;
+pub mod walls;
+
+pub use case::Case;
+pub use cell::{post, sound};
+pub use first::first_state;
+pub use gate::{Gate, NoGate};
+pub use pattern::{Pattern, StepEnd};
+pub use sets::SetKind;
+pub use state::State;
+pub use walls::{all_gain, gain};
+
+#[cfg(test)]
+mod tests;

@@ -1,0 +1,16 @@
+//! Velocity sets and the torus of cells.
+#![tactic(auto)]
+
+pub mod cutting;
+pub mod memory;
+pub mod padded;
+pub mod set;
+pub mod space;
+
+pub use cutting::{CutEnd, Cutting};
+pub use memory::Memory;
+pub use set::{D2Q9, D3Q19, VelocitySet};
+pub use space::Space;
+
+#[cfg(test)]
+mod tests;

@@ -1,0 +1,18 @@
+use Rattle.std.proofs.Common.{Ok, Err, rules}
+use Rattle.lbm_store.specs.declared.outside.IoEnd.TheVariants.{Failed}
+use Rattle.lbm_store.specs.declared.map_store.MapStore.{MapStore}
+use Rattle.lbm_store.specs.Memory.{MapCreates, map_state}
+use Rattle.lbm_store.proofs.StoreLemmas.{Creates-from_map}
+use Rattle.lbm_store.proofs.map_store.MapStoreStore.create.Goals as goal
+
+pub returns-then-is_to_fail : goal.returns-then-is_to_fail
+returns-then-is_to_fail c =
+    let after : MapStore = record c.args.self.now { write_faults = c.raise.new.self; calls = c.count.new.self } in
+    let exactly : MapCreates (map_state c.args.self.now) (map_state after) (Err Failed) c.args.name.now = search rules in
+    record { creates = Creates-from_map _ _ _ _ exactly; exactly = exactly }
+
+pub returns : goal.returns
+returns c =
+    let after : MapStore = record c.args.self.now { files = c.put.new.self; write_faults = c.make_room.new.self; calls = c.count-2.new.self } in
+    let exactly : MapCreates (map_state c.args.self.now) (map_state after) (Ok tt) c.args.name.now = search rules in
+    record { creates = Creates-from_map _ _ _ _ exactly; exactly = exactly }

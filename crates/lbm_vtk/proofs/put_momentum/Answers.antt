@@ -1,0 +1,11 @@
+use Rattle.std.proofs.Common.{rules}
+use Rattle.lbm_store.proofs.PutLemmas.{Puts-is}
+use Rattle.lbm_vtk.proofs.Lines.{momentum-parts}
+use Rattle.lbm_vtk.proofs.put_momentum.Goals as goal
+
+pub returns : goal.returns
+returns g c =
+    Puts-is g.K.Sink.state c.args.pieces.now c.put_parts.new.pieces c.put_parts.result _ _
+    (momentum-parts c.args.cell.now c.as_bytes.result.now c.as_slice.result.now c.as_bytes-2.result.now c.as_slice-2.result.now c.as_bytes-3.result.now c.as_slice-3.result.now
+    (search rules) (search rules) (search rules) (search rules) (search rules) (search rules))
+    c.put_parts.ensures
