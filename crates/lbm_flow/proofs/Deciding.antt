@@ -1,23 +1,28 @@
 -- What may be decided at each step.
-use Rattle.std.proofs.Common.{◌≡◌, ◌∙◌, ℕ, List, [], ◌∷◌, Some, Ok, Err, inl, refl, sym, ap, subst}
+use Rattle.std.proofs.Common.{◌≡◌, ◌∙◌, ℕ, ◌<◌, ◌≤◌, List, [], ◌∷◌, length, Some, Ok, Err, inl, pos, ◌+ℤ◌, ◌*ℤ◌, refl, sym, ap, subst}
+use Rattle.std.proofs.lemmas.Bool.{le-leb, lt-leb}
 use Rattle.std.specs.Prelude.{MatchResult, IsOkAnd}
 use Rattle.std.specs.Option.{ForSome}
 use Rattle.lbm_store.specs.Outside.{Files, StoreState, Rose, content}
 use Rattle.lbm_cell.specs.declared.populations.Moment.{Moment}
-use Rattle.lbm_model.specs.Case.{FlowCase}
+use Rattle.lbm_model.specs.Case.{FlowCase, IsCase, all_gain}
+use Rattle.lbm_model.specs.State.{mass}
+use Rattle.lbm_model.specs.Laws.{IsFlow}
 use Rattle.lbm_model.specs.Flow.{first, run}
-use Rattle.lbm_flow.specs.declared.answer.CaseFault.TheVariants.{NotBuilt}
+use Rattle.lbm_case.specs.declared.fault.CaseFault.{CaseFault}
 use Rattle.lbm_flow.specs.declared.answer.File.TheVariants.{CaseFile, Out}
 use Rattle.lbm_flow.specs.declared.answer.End.{End}
-use Rattle.lbm_flow.specs.declared.answer.End.TheVariants.{Done, Usage, Case, Range, StoreFault, SinkFault, Memory}
+use Rattle.lbm_flow.specs.declared.answer.End.TheVariants.{Done, Usage, Case, TooLong, Range, StoreFault, SinkFault, Memory}
 use Rattle.lbm_flow.specs.declared.answer.Report.{Report}
 use Rattle.lbm_flow.specs.Words.{Request, request_of}
-use Rattle.lbm_flow.specs.CaseFile.{case_of}
-use Rattle.lbm_flow.specs.Outcome.{Finished, Written, CutShort, outcome, outcome_of, concluded, finished, written}
+use Rattle.lbm_case.specs.CaseOf.{case_of}
+use Rattle.lbm_flow.specs.Outcome.{Finished, Written, CutShort, case_limit, outcome, concluded, finished, written}
 use Rattle.lbm_flow.specs.Files.{ReadsCaseFile, SavesOut}
 use Rattle.lbm_flow.specs.Finishing.{Finishes, Prints}
 use Rattle.lbm_vtk.specs.Vtk.{vtk}
-use Rattle.lbm_flow.specs.Answer.{Decision, Decides, DecidesFor}
+use Rattle.lbm_flow.specs.Answer.{Decision, Decides, DecidesFor, KeepsMass}
+use Rattle.lbm_model.proofs.Mass.{mass-run}
+use Rattle.lbm_flow.proofs.Stepped.{first_is_state}
 
 -- words that ask for something
 pub decides-for : (words : List (List ℕ)) (request : Request) (before after : StoreState) (decision : Decision)
@@ -39,11 +44,27 @@ for-memory request before after same = λ files told. (
   ],
 )
 
+module _ (request : Request) (files : Files) where
+  outcome-case : (case : FlowCase) → length (content files request.case) ≤ case_limit → case_of (content files request.case) ≡ Ok case
+      → outcome request files ≡ concluded request case (run case (first case) 0 request.steps)
+  unfolding outcome
+  outcome-case case short is = rw (le-leb _ _ short, is) refl
+
+  outcome-fault : (fault : CaseFault) → length (content files request.case) ≤ case_limit → case_of (content files request.case) ≡ Err fault
+      → outcome request files ≡ Err (Case fault)
+  unfolding outcome
+  outcome-fault fault short is = rw (le-leb _ _ short, is) refl
+
+  outcome-long : case_limit < length (content files request.case) → outcome request files ≡ Err (TooLong CaseFile)
+  unfolding outcome
+  outcome-long long = rw (lt-leb _ _ long) refl
+
 -- a case that was not read
 pub for-unread : (request : Request) (before after : StoreState) (end : End)
     → ReadsCaseFile before after request.case (Err end) → after.files ≡ before.files → DecidesFor request before after (Err end)
-unfolding outcome
-for-unread request before after (Case NotBuilt) read same = (same, λ files told. ap (outcome_of request) (read files told))
+for-unread request before after (Case fault) read same = (same, λ files told. outcome-fault request files fault (read files told).0 (read files told).1)
+for-unread request before after (TooLong CaseFile) read same = (same, λ files told. outcome-long request files (read files told))
+for-unread request before after (TooLong Out) read same = absurd read
 for-unread request before after (StoreFault CaseFile) read same = (read, same)
 for-unread request before after (StoreFault Out) read same = absurd read
 for-unread request before after Memory read same = for-memory request before after same
@@ -52,19 +73,19 @@ for-unread request before after Done read same = absurd read
 for-unread request before after Usage read same = absurd read
 for-unread request before after SinkFault read same = absurd read
 
-module _ (request : Request) (before between after : StoreState) (case : FlowCase)
-    (read : ForSome before.files (λ files. case_of (content files request.case) ≡ Some case))
+module _ (request : Request) (before between after : StoreState) (case : FlowCase) (valid : IsCase case)
+    (read : ForSome before.files (λ files. (length (content files request.case) ≤ case_limit) × (case_of (content files request.case) ≡ Ok case)))
     (files_same : between.files ≡ before.files)
     (faults_same : between.write_faults ≡ before.write_faults) where
   outcome-run : (files : Files) → before.files ≡ Some files → outcome request files ≡ concluded request case (run case (first case) 0 request.steps)
-  unfolding outcome
-  outcome-run files told = ap (outcome_of request) (read files told)
+  outcome-run files told = outcome-case request files case (read files told).0 (read files told).1
 
   -- a run that was not finished
   pub for-unfinished : (A : Type 0) (end : End) → Finishes {A = A} case request.steps (Err end) → DecidesFor request before between (Err end)
   for-unfinished A (Range step cell) finishes = (files_same, λ files told. outcome-run files told ∙ ap (concluded request case) finishes)
   for-unfinished A Memory finishes = for-memory request before between files_same
   for-unfinished A (Case fault) finishes = absurd finishes
+  for-unfinished A (TooLong file) finishes = absurd finishes
   for-unfinished A (StoreFault file) finishes = absurd finishes
   for-unfinished A Done finishes = absurd finishes
   for-unfinished A Usage finishes = absurd finishes
@@ -85,13 +106,21 @@ module _ (request : Request) (before between after : StoreState) (case : FlowCas
         let same : full ≡ left = ap (λ ms. with_file ms full.report) (sym prints.moments_are) ∙ ap (with_file moments) (sym prints.report_is) in
         outcome-run files told ∙ ap (concluded request case) prints.end ∙ ap (λ f. Ok f) same
 
+    -- the mass that is reported
+    keeps-mass : (files : Files) → before.files ≡ Some files → KeepsMass request files report
+    keeps-mass files told =
+        let flow : IsFlow case (first case) = record { set = valid.set; space = valid.space; state = first_is_state case } in
+        let law : report.mass ≡ mass (first case) +ℤ (pos request.steps *ℤ all_gain case) =
+        ap (λ r. r.mass) prints.report_is ∙ mass-run case (first case) prints.state 0 request.steps flow prints.end in
+        rw (read files told).1 law
+
     -- a file that was written
     pub for-saved : SavesOut between after file (Ok tt) → DecidesFor request before after (Ok report)
     for-saved saved = λ files told.
         let t = saved files (files_same ∙ told) in (
           t.0,
           t.1,
-          subst (λ o. IsOkAnd o (λ run. (run.report ≡ report) × (t.0 ≡ written run.files files))) (sym (outcome-left files told)) (refl, t.2),
+          (subst (λ o. IsOkAnd o (λ run. (run.report ≡ report) × (t.0 ≡ written run.files files))) (sym (outcome-left files told)) (refl, t.2), keeps-mass files told),
         )
 
     -- a file that was not
@@ -107,6 +136,7 @@ module _ (request : Request) (before between after : StoreState) (case : FlowCas
         (t.0, t.1, subst (λ o. MatchResult o (λ run. CutShort run.files files t.0) (λ refused. t.0 ≡ files)) (sym (outcome-left files told)) (inl t.2))
     for-unsaved (StoreFault CaseFile) saved = absurd saved
     for-unsaved (Case fault) saved = absurd saved
+    for-unsaved (TooLong file) saved = absurd saved
     for-unsaved (Range step cell) saved = absurd saved
     for-unsaved Done saved = absurd saved
     for-unsaved Usage saved = absurd saved

@@ -1,10 +1,11 @@
 pub mod Reading
-pub mod Tables
-pub mod Spelled
 pub mod SameMoments
 pub mod SmallMoments
 pub mod Streaming
 pub mod Stepping
 pub mod Turning
+pub mod Populations
+pub mod Running
 pub mod Stepped
+pub mod Finishing
 pub mod Deciding

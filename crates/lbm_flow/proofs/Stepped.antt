@@ -1,48 +1,21 @@
--- A step of two plain lattices, and a run of them.
-use Rattle.std.proofs.Common.{◌≡◌, ◌∙◌, ℕ, zero, suc, ◌+◌, ◌≤◌, true, List, length, Option, Some, None, ℤ, ap, sym, subst, refl}
-use Rattle.std.specs.Prelude.{is_none}
+-- A step of two plain lattices.
+use Rattle.std.proofs.Common.{◌≡◌, ◌∙◌, ℕ, zero, suc, ◌+◌, ◌*◌, ◌<◌, ◌≤◌, List, [], ◌∷◌, length, get_or, None, refl, ℤ, ap, sym, subst, arith}
 use Rattle.std.proofs.Math.Nat.{mul-mod_left, mul-le-mul_right}
+use Rattle.std.proofs.lemmas.Nat.{mul-add-lt}
 use Rattle.lbm_space.specs.Stencil.{Stencil, IsVelocitySet}
 use Rattle.lbm_space.specs.Torus.{cells}
 use Rattle.lbm_model.specs.Case.{FlowCase, IsCase}
 use Rattle.lbm_model.specs.State.{FlowState, IsState, flow_state}
-use Rattle.lbm_model.specs.Flow.{IsStateOf, first, first_in, next, out_of_limits, run, reached, range}
+use Rattle.lbm_model.specs.Flow.{IsStateOf, first, first_in, next}
 use Rattle.lbm_model.proofs.Mass.{IsStateOf-next, IsStateOf-state_by}
 use Rattle.lbm_model.proofs.Sizes.{few_cells}
-use Rattle.lbm_model.proofs.SmallStates.{small-next}
-use Rattle.lbm_model.specs.Small.{IsSmall}
+use Rattle.lbm_model.proofs.SmallStates.{small-next, small-narrow}
+use Rattle.lbm_model.specs.Small.{IsSmall, IsNarrow}
 use Rattle.lbm_flow.specs.Plain.{Steps}
-use Rattle.lbm_flow.specs.Lattices.{state_in, IsPlain, StepsPlain}
-use Rattle.lbm_flow.specs.declared.plain.Plain.{Plain}
+use Rattle.lbm_flow.specs.Lattices.{IsPlain}
 
 pub first_is_state : (case : FlowCase) → IsStateOf case (first case)
 first_is_state case = IsStateOf-state_by case (first_in case)
-
-pub stepped : (case : FlowCase) (v : Stencil) (before after : Plain) (result : Option ℕ) → IsCase case → case.stencil ≡ v → IsPlain case v before
-    → Steps case (state_in v before) after.now.items result → is_none result ≡ true → length after.next.items ≡ length after.now.items → StepsPlain case v before after result
-stepped case v before after None valid set plain steps none room =
-    let same : state_in v after ≡ next case (state_in v before) =
-    ap (λ (n : ℕ). flow_state n after.now.items) (ap (λ (w : Stencil). w.directions) (sym set)) ∙ ap (flow_state case.stencil.directions) steps.1 in (
-      steps.0,
-      same,
-      record {
-        state = subst (IsStateOf case) (sym same) (IsStateOf-next case (state_in v before));
-        small = subst (IsSmall case) (sym same) (small-next case (state_in v before) valid plain.small steps.0);
-        room = room;
-      },
-    )
-stepped case v before after (Some cell) valid set plain steps none room = absurd cc
-
--- a run that ends at once, and one that goes on
-pub run-range : (case : FlowCase) (s : FlowState) (time steps cell : ℕ) → out_of_limits case s ≡ Some cell → run case s time steps ≡ range time cell
-run-range case s time zero cell unsound = rw (run, unsound) refl
-run-range case s time (suc steps) cell unsound = rw (run, unsound) refl
-
-pub run-step : (case : FlowCase) (s : FlowState) (time steps : ℕ) → out_of_limits case s ≡ None → run case s time (suc steps) ≡ run case (next case s) (time + 1) steps
-run-step case s time steps sound = rw (run, sound) refl
-
-pub run-end : (case : FlowCase) (s : FlowState) (time : ℕ) → out_of_limits case s ≡ None → run case s time 0 ≡ reached s
-run-end case s time sound = rw (run, sound) refl
 
 -- the populations of a case's cells can be kept
 pub is_state : (case : FlowCase) (v : Stencil) (numbers : List ℤ) → IsCase case → case.stencil ≡ v → IsStateOf case (flow_state v.directions numbers) → IsState (flow_state v.directions numbers)
@@ -55,3 +28,48 @@ is_state case v numbers valid set state =
       whole_cells = rw state.numbers (mul-mod_left (cells case.torus) v.directions);
       few_cells = rw state.numbers (mul-le-mul_right v.directions few);
     }
+
+-- the other lattice holds the next state
+pub state-stepped : (v : Stencil) (case : FlowCase) (now after : List ℤ) → case.stencil ≡ v → after ≡ (next case (flow_state v.directions now)).numbers
+    → flow_state v.directions after ≡ next case (flow_state v.directions now)
+state-stepped v case now after set is = ap (λ w. flow_state w.directions after) (sym set) ∙ ap (flow_state case.stencil.directions) is
+
+pub IsPlain-stepped : (v : Stencil) (case : FlowCase) (now before after : List ℤ) → IsPlain v case now before
+    → Steps case (flow_state v.directions now) after None → IsPlain v case after now
+IsPlain-stepped v case now before after plain steps =
+    let s = flow_state v.directions now in
+    let same = state-stepped v case now after plain.set steps.1 in
+    let state : IsStateOf case (flow_state v.directions after) = subst (IsStateOf case) (sym same) (IsStateOf-next case s) in
+    record {
+      set = plain.set;
+      valid = plain.valid;
+      state = state;
+      small = subst (IsSmall case) (sym same) (small-next case s plain.valid plain.small steps.0);
+      room = plain.state.numbers ∙ sym state.numbers;
+    }
+
+-- a case begins at a narrow state of it
+pub IsPlain-first : (v : Stencil) (case : FlowCase) (s : FlowState) (now next : List ℤ) → case.stencil ≡ v → IsCase case → IsStateOf case s → IsNarrow s
+    → now ≡ s.numbers → length next ≡ length now → IsPlain v case now next
+IsPlain-first v case s now next set valid state narrow is room =
+    let same : s ≡ flow_state v.directions now = ap (λ q. flow_state q s.numbers) (state.directions ∙ ap (λ w. w.directions) set) ∙ ap (flow_state v.directions) (sym is) in
+    record {
+      set = set;
+      valid = valid;
+      state = subst (IsStateOf case) same state;
+      small = subst (IsSmall case) same (small-narrow case s valid state narrow);
+      room = room;
+    }
+
+-- where a population of a cell stands
+pub place-below : (v : Stencil) (case : FlowCase) (now : List ℤ) (x i : ℕ) → case.stencil ≡ v → IsStateOf case (flow_state v.directions now)
+    → x < cells case.torus → i < case.stencil.directions → x * v.directions + i < length now
+place-below v case now x i set state known_x known_i =
+    let known : i < v.directions = subst (λ w. i < w.directions) set known_i in
+    rw state.numbers (omega (arith, mul-add-lt x v.directions i (cells case.torus) known_x known))
+
+-- where something stands, the default is not read
+pub get_or_any : {A : Type 0} (xs : List A) (i : ℕ) (d e : A) → i < length xs → get_or xs i d ≡ get_or xs i e
+get_or_any [] i d e below = absurd (omega arith)
+get_or_any (x ∷ xs) zero d e below = refl
+get_or_any (x ∷ xs) (suc i) d e below = get_or_any xs i d e (omega arith)

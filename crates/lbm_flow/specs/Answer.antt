@@ -1,11 +1,15 @@
 -- What a call may answer, and what it leaves outside. First it decides, from the words and the store; then it tells the sink.
-use Rattle.std.specs.Prelude.{◌≡◌, ◌⊎◌, List, ℕ, Option, Result, Ok, Err, IsOkAnd, MatchResult}
+use Rattle.std.specs.Prelude.{◌≡◌, ◌⊎◌, List, ℕ, Option, Result, Ok, Err, IsOkAnd, MatchResult, pos, ◌+ℤ◌, ◌*ℤ◌}
 use Rattle.std.specs.Option.{ForSome}
-use Rattle.lbm_store.specs.Outside.{StoreState, SinkState, Rose, GotFront, followed}
+use Rattle.lbm_store.specs.Outside.{Files, StoreState, SinkState, Rose, GotFront, content, followed}
+use Rattle.lbm_case.specs.CaseOf.{case_of}
+use Rattle.lbm_model.specs.State.{mass}
+use Rattle.lbm_model.specs.Case.{all_gain}
+use Rattle.lbm_model.specs.Flow.{first}
 use Rattle.lbm_flow.specs.declared.answer.File.{File}
 use Rattle.lbm_flow.specs.declared.answer.File.TheVariants.{CaseFile, Out}
 use Rattle.lbm_flow.specs.declared.answer.End.{End}
-use Rattle.lbm_flow.specs.declared.answer.End.TheVariants.{Done, Usage, Case, Range, StoreFault, SinkFault, Memory}
+use Rattle.lbm_flow.specs.declared.answer.End.TheVariants.{Done, Usage, Case, TooLong, Range, StoreFault, SinkFault, Memory}
 use Rattle.lbm_flow.specs.declared.answer.Report.{Report}
 use Rattle.lbm_flow.specs.Words.{Request, request_of}
 use Rattle.lbm_flow.specs.Lines.{line_of, report_line}
@@ -24,11 +28,16 @@ FaultRose request Out before after = Rose (before.write_faults request.out) (aft
 abbrev pub Refuses : Request → StoreState → StoreState → End → Type 0
 Refuses request before after refused = (after.files ≡ before.files) × ForSome before.files (λ files. outcome request files ≡ Err refused)
 
+-- the mass that is reported is that of the first state, and what the walls give in each step
+abbrev pub KeepsMass : Request → Files → Report → Type 0
+KeepsMass request files report =
+    IsOkAnd (case_of (content files request.case)) (λ case. report.mass ≡ mass (first case) +ℤ (pos request.steps *ℤ all_gain case))
+
 -- What may be decided for a request, and what has become of the files.
 abbrev pub DecidesFor : Request → StoreState → StoreState → Decision → Type 0
 -- the run is finished
 DecidesFor request before after (Ok report) =
-    OfFiles before after (λ files now. IsOkAnd (outcome request files) (λ run. (run.report ≡ report) × (now ≡ written run.files files)))
+    OfFiles before after (λ files now. IsOkAnd (outcome request files) (λ run. (run.report ≡ report) × (now ≡ written run.files files)) × KeepsMass request files report)
 -- want of memory: at any step
 DecidesFor request before after (Err Memory) =
     OfFiles before after (λ files now. MatchResult (outcome request files) (λ run. CutShort run.files files now) (λ refused. now ≡ files))
@@ -38,6 +47,7 @@ DecidesFor request before after (Err (StoreFault Out)) =
     FaultRose request Out before after
     × OfFiles before after (λ files now. IsOkAnd (outcome request files) (λ run. CutShort run.files files now))
 DecidesFor request before after (Err (Case fault)) = Refuses request before after (Case fault)
+DecidesFor request before after (Err (TooLong file)) = Refuses request before after (TooLong file)
 DecidesFor request before after (Err (Range step cell)) = Refuses request before after (Range step cell)
 -- never, where the words ask for something
 DecidesFor request before after (Err Usage) = ⊥

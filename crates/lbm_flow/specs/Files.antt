@@ -1,15 +1,15 @@
 -- Files that are read or written whole.
-use Rattle.std.specs.Prelude.{◌≡◌, ℕ, ◌<◌, ◌≤◌, ◌++◌, List, length, Result, Ok, Err, Vec, Some, None}
+use Rattle.std.specs.Prelude.{◌≡◌, ℕ, ◌<◌, ◌≤◌, ◌++◌, List, length, Result, Ok, Err, Vec, Some}
 use Rattle.std.specs.Option.{ForSome}
 use Rattle.lbm_store.specs.Outside.{StoreState, Rose, content, with}
 use Rattle.lbm_flow.specs.declared.files.ReadEnd.{ReadEnd}
 use Rattle.lbm_flow.specs.declared.files.ReadEnd.TheVariants as read_end
 use Rattle.lbm_flow.specs.declared.answer.File.TheVariants.{CaseFile, Out}
 use Rattle.lbm_flow.specs.declared.answer.End.{End}
-use Rattle.lbm_flow.specs.declared.answer.End.TheVariants.{Case, StoreFault, Memory}
+use Rattle.lbm_flow.specs.declared.answer.End.TheVariants.{Case, TooLong, StoreFault, Memory}
 use Rattle.lbm_model.specs.Case.{FlowCase}
-use Rattle.lbm_flow.specs.CaseFile.{case_of}
-use Rattle.lbm_flow.specs.Outcome.{Written, HoldsFront, OfFiles}
+use Rattle.lbm_case.specs.CaseOf.{case_of}
+use Rattle.lbm_flow.specs.Outcome.{case_limit, Written, HoldsFront, OfFiles}
 
 -- all the bytes of a file of at most so many, or why not
 abbrev pub ReadsFile : {A : Type 0} → StoreState → StoreState → List ℕ → ℕ → Result (Vec ℕ A) ReadEnd → Type 0
@@ -25,10 +25,11 @@ pub record HasRead (before now : StoreState) (name bytes : List ℕ) : Type 0 wh
   pub read_faults : now.read_faults name ≡ before.read_faults name
   pub write_faults : now.write_faults ≡ before.write_faults
 
--- the case that a file spells, or why there is none
+-- the case of a file, or why there is none
 abbrev pub ReadsCaseFile : StoreState → StoreState → List ℕ → Result FlowCase End → Type 0
-ReadsCaseFile before after name (Ok case) = ForSome before.files (λ files. case_of (content files name) ≡ Some case)
-ReadsCaseFile before after name (Err (Case fault)) = ForSome before.files (λ files. case_of (content files name) ≡ None)
+ReadsCaseFile before after name (Ok case) = ForSome before.files (λ files. (length (content files name) ≤ case_limit) × (case_of (content files name) ≡ Ok case))
+ReadsCaseFile before after name (Err (Case fault)) = ForSome before.files (λ files. (length (content files name) ≤ case_limit) × (case_of (content files name) ≡ Err fault))
+ReadsCaseFile before after name (Err (TooLong CaseFile)) = ForSome before.files (λ files. case_limit < length (content files name))
 ReadsCaseFile before after name (Err (StoreFault CaseFile)) = Rose (before.read_faults name) (after.read_faults name)
 ReadsCaseFile before after name (Err Memory) = Unit {0}
 ReadsCaseFile before after name (Err end) = ⊥

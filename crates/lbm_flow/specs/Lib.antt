@@ -1,11 +1,12 @@
 pub mod Words
-pub mod CaseFile
-pub mod Fields
+pub mod Causes
+pub mod Running
 pub mod Plain
 pub mod Lattices
 pub mod Run
 pub mod Outcome
 pub mod Lines
 pub mod Answer
+pub mod Complete
 pub mod Files
 pub mod Finishing

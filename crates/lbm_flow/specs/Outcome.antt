@@ -1,16 +1,17 @@
 -- What a request comes to, over files whose bytes are known. No pattern, worker or piece is known here.
-use Rattle.std.specs.Prelude.{◌≡◌, ◌⊎◌, ℕ, List, [], ◌∷◌, Option, Some, None, Result, Ok, Err}
+use Rattle.std.specs.Prelude.{◌≡◌, ◌⊎◌, ℕ, List, [], ◌∷◌, nat_le, length, if◌then◌else◌, Some, None, Result, Ok, Err}
 use Rattle.std.specs.Option.{ForSome}
 use Rattle.lbm_store.specs.Outside.{Files, StoreState, with, content, SomeFront}
 use Rattle.lbm_model.specs.State.{FlowState}
 use Rattle.lbm_model.specs.Case.{FlowCase}
 use Rattle.lbm_model.specs.Flow.{RunEnd, reached, range, first, run}
-use Rattle.lbm_flow.specs.declared.answer.CaseFault.TheVariants.{NotBuilt}
+use Rattle.lbm_case.specs.declared.fault.CaseFault.{CaseFault}
 use Rattle.lbm_flow.specs.declared.answer.End.{End}
-use Rattle.lbm_flow.specs.declared.answer.End.TheVariants.{Case, Range}
+use Rattle.lbm_flow.specs.declared.answer.End.TheVariants.{Case, TooLong, Range}
+use Rattle.lbm_flow.specs.declared.answer.File.TheVariants.{CaseFile}
 use Rattle.lbm_flow.specs.declared.answer.Report.{Report}
 use Rattle.lbm_flow.specs.Words.{Request}
-use Rattle.lbm_flow.specs.CaseFile.{case_of}
+use Rattle.lbm_case.specs.CaseOf.{case_of}
 use Rattle.lbm_flow.specs.Run.{printed_moments, report_of}
 use Rattle.lbm_vtk.specs.Vtk.{vtk}
 
@@ -40,14 +41,22 @@ abbrev pub concluded : Request → FlowCase → RunEnd → Result Finished End
 concluded request case (reached s) = Ok (finished request case s)
 concluded request case (range step cell) = Err (Range step cell)
 
--- what a case comes to, where the file holds one
-abbrev pub outcome_of : Request → Option FlowCase → Result Finished End
-outcome_of request None = Err (Case NotBuilt)
-outcome_of request (Some case) = concluded request case (run case (first case) 0 request.steps)
+-- what a case comes to, or the fault of its file
+abbrev pub outcome_of : Request → Result FlowCase CaseFault → Result Finished End
+outcome_of request (Err fault) = Err (Case fault)
+outcome_of request (Ok case) = concluded request case (run case (first case) 0 request.steps)
+
+-- the greatest length of a case file, in bytes
+abbrev pub case_limit : ℕ
+case_limit = 33554432
+
+-- what the bytes of a case file come to
+abbrev pub outcome_in : Request → List ℕ → Result Finished End
+outcome_in request bytes = if nat_le (length bytes) case_limit then outcome_of request (case_of bytes) else Err (TooLong CaseFile)
 
 -- The first refusal that applies, or the finished run.
 unfoldable pub outcome : Request → Files → Result Finished End
-outcome request files = outcome_of request (case_of (content files request.case))
+outcome request files = outcome_in request (content files request.case)
 
 -- P holds of the files before and those after, where the store tells them
 abbrev pub OfFiles : StoreState → StoreState → (Files → Files → Type 0) → Type 0

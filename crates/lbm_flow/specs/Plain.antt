@@ -1,17 +1,8 @@
 -- A step of two plain lattices.
-use Rattle.std.specs.Prelude.{◌≡◌, ◌≢◌, ℕ, ◌+◌, ◌*◌, ◌<◌, List, length, ℤ, pos, slice_index_or, Option, Some, None, Result, Ok, Err}
+use Rattle.std.specs.Prelude.{◌≡◌, ◌≢◌, ℕ, ◌+◌, ◌*◌, ◌<◌, List, length, ℤ, pos, slice_index_or, Option, Some, None}
 use Rattle.lbm_model.specs.Case.{FlowCase, target}
 use Rattle.lbm_model.specs.State.{FlowState}
-use Rattle.lbm_model.specs.Flow.{IsStateOf, next, out_of_limits, first, run, reached, range}
-use Rattle.lbm_flow.specs.declared.answer.End.{End}
-use Rattle.lbm_flow.specs.declared.answer.End.TheVariants.{Range, Memory}
-
--- the state that the run reaches, or where it is out of limits, or memory ran out
-abbrev pub Runs : FlowCase → ℕ → Result FlowState End → Type 0
-Runs case steps (Ok s) = (run case (first case) 0 steps ≡ reached s) × IsStateOf case s
-Runs case steps (Err (Range step cell)) = run case (first case) 0 steps ≡ range step cell
-Runs case steps (Err Memory) = Unit {0}
-Runs case steps (Err end) = ⊥
+use Rattle.lbm_model.specs.Flow.{next, out_of_limits}
 
 -- the other lattice holds the next state, or a cell is out of limits
 abbrev pub Steps : FlowCase → FlowState → List ℤ → Option ℕ → Type 0

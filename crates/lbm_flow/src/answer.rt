@@ -2,33 +2,40 @@
 ghost use Rattle.std.specs.Prelude.{◌≡◌};
 ghost use Rattle.lbm_flow.specs.declared.answer.End.TheVariants.{Memory};
 ghost use Rattle.lbm_flow.specs.Lines.{status_of};
+ghost use Rattle.lbm_flow.specs.Causes.{case_end, run_end};
 
+use crate::RunEnd;
+use lbm_case::{CaseEnd, CaseFault};
 use lbm_space::Memory;
 use std::alloc::AllocError;
 
 /// A file that the words name.
 #[derive(Clone, Copy, Debug, PartialEq, Eq)]
 pub enum File {
+    /// The file with the case.
     CaseFile,
+    /// The file that densities and momenta are written to.
     Out,
 }
 
-/// Why a case file is refused.
-#[derive(Clone, Copy, Debug, PartialEq, Eq)]
-pub enum CaseFault {
-    /// It is longer than 33,554,432 bytes, or not of the form that is read today.
-    NotBuilt,
-}
-
 /// What a call answers.
-#[derive(Clone, Copy, Debug, PartialEq, Eq)]
+#[derive(Debug, Drop, PartialEq, Eq)]
 pub enum End {
+    /// All was done.
     Done,
+    /// The words ask for nothing.
     Usage,
+    /// The case file is refused.
     Case(CaseFault),
+    /// This file is longer than it may be.
+    TooLong(File),
+    /// This is the first step of the run with a cell out of limits, and the least such cell.
     Range { step: u64, cell: u32 },
+    /// The store could not read or write this file.
     StoreFault(File),
+    /// The sink did not take the report.
     SinkFault,
+    /// Memory ran out.
     Memory,
 }
 
@@ -59,6 +66,28 @@ impl From<Memory> for End {
     }
 }
 
+impl From<CaseEnd> for End {
+    ghost from_gives = { λ why e. e ≡ case_end why };
+
+    fn from(why: CaseEnd) -> Self {
+        match why {
+            CaseEnd::Fault(fault) => End::Case(fault),
+            CaseEnd::Memory => End::Memory,
+        }
+    }
+}
+
+impl From<RunEnd> for End {
+    ghost from_gives = { λ why e. e ≡ run_end why };
+
+    fn from(why: RunEnd) -> Self {
+        match why {
+            RunEnd::Range { step, cell } => End::Range { step, cell },
+            RunEnd::Memory => End::Memory,
+        }
+    }
+}
+
 impl End {
     /// The status with which the program ends.
     pub fn status(&self) -> u8
@@ -67,7 +96,7 @@ impl End {
         match self {
             End::Done => 0,
             End::Usage => 2,
-            End::Case(_) => 3,
+            End::Case(_) | End::TooLong(_) => 3,
             End::Range { .. } => 5,
             End::StoreFault(_) | End::SinkFault => 6,
             End::Memory => 7,

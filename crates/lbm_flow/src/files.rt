@@ -5,8 +5,8 @@ ghost use Rattle.lbm_store.specs.Sinks.{WritesFile};
 ghost use Rattle.lbm_vtk.specs.Vtk.{vtk};
 ghost use Rattle.lbm_flow.specs.Files.{ReadsFile, ReadsCaseFile, SavesOut};
 
-use crate::case_file::read_case;
-use crate::{CaseFault, End, File};
+use crate::{End, File};
+use lbm_case::read_case;
 use lbm_cell::Moment;
 use lbm_model::Case;
 use lbm_space::Space;
@@ -62,8 +62,8 @@ pub(crate) fn case_of_file<T: Store>(alloc: Global, store: &mut T, name: &str) -
     ensures write_faults { (T.state store.new).write_faults ≡ (T.state store.old).write_faults }
 {
     match read_file(alloc, store, name, CASE_LIMIT) {
-        Ok(bytes) => read_case(alloc, &bytes),
-        Err(ReadEnd::TooLong) => Err(End::Case(CaseFault::NotBuilt)),
+        Ok(bytes) => Ok(read_case(alloc, &bytes)?),
+        Err(ReadEnd::TooLong) => Err(End::TooLong(File::CaseFile)),
         Err(ReadEnd::Failed) => Err(End::StoreFault(File::CaseFile)),
         Err(ReadEnd::Memory) => Err(End::Memory),
     }

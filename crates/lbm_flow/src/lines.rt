@@ -3,7 +3,8 @@ ghost use Rattle.std.specs.Prelude.{◌≡◌, ◌+◌, ◌≤◌, ◌++◌, len
 ghost use Rattle.arrayvec.specs.ArrayString.{array_string_len};
 ghost use Rattle.lbm_flow.specs.Lines.{line_of, report_line};
 
-use crate::{CaseFault, End, File, Report};
+use crate::refusals::case_line;
+use crate::{End, File, Report};
 use arrayvec::ArrayString;
 use itoa::{Buffer, Integer};
 
@@ -25,14 +26,15 @@ pub(crate) fn report_line(report: &Report) -> Line
 }
 
 /// The line of an answer that is no report.
-pub(crate) fn line_of(end: End) -> Line
-    ensures { result.bytes ≡ line_of end }
+pub(crate) fn line_of(end: &End) -> Line
+    ensures { result.bytes ≡ line_of end.now }
 {
     match end {
-        End::Range { step, cell } => range_line(step, cell),
-        End::Done | End::SinkFault => line_with(""),
+        End::Range { step, cell } => range_line(*step, *cell),
+        End::Case(fault) => case_line(fault),
+        End::Done | End::SinkFault | End::TooLong(File::Out) => line_with(""),
         End::Usage => line_with("refused: usage\n"),
-        End::Case(CaseFault::NotBuilt) => line_with("refused: case not built\n"),
+        End::TooLong(File::CaseFile) => line_with("refused: case too long\n"),
         End::StoreFault(File::CaseFile) => line_with("fault: case\n"),
         End::StoreFault(File::Out) => line_with("fault: out\n"),
         End::Memory => line_with("out of memory\n"),
@@ -58,8 +60,8 @@ fn line_with(text: &str) -> Line
     line
 }
 
-// Puts a word and a number at the end of the line.
-fn put_number<I: Integer>(line: &mut Line, word: &str, number: I)
+/// Puts a word and a number at the end of the line.
+pub(crate) fn put_number<I: Integer>(line: &mut Line, word: &str, number: I)
     requires { array_string_len line.old + length word.now + I.MAX_STR_LEN ≤ 128 }
     ensures text { line.new.bytes ≡ line.old.bytes ++ word.now ++ I.text number }
     ensures len { array_string_len line.new ≤ array_string_len line.old + length word.now + I.MAX_STR_LEN }

@@ -1,92 +1,112 @@
 // Two plain lattices on one thread.
-ghost use Rattle.std.specs.Prelude.{◌≡◌, ◌+◌, ◌*◌, ◌<◌, ◌≤◌, ◌^◌, ℕ, unsigned_abs, length, IfOk};
+ghost use Rattle.std.specs.Prelude.{◌≡◌, ◌+◌, ◌*◌, ◌<◌, ◌≤◌, ◌^◌, ℕ, unsigned_abs, length, IfOk, None, false};
 ghost use Rattle.lbm_space.specs.Torus.{cells};
 ghost use Rattle.lbm_cell.specs.Moments.{populations};
 ghost use Rattle.lbm_model.specs.Case.{IsCase};
 ghost use Rattle.lbm_model.specs.State.{flow_state};
-ghost use Rattle.lbm_model.specs.Flow.{IsStateOf, out_of_limits, first};
-ghost use Rattle.lbm_model.specs.Small.{IsSmall};
-ghost use Rattle.lbm_flow.specs.Plain.{Steps, Streams, Runs};
+ghost use Rattle.lbm_model.specs.Flow.{IsStateOf, out_of_limits};
+ghost use Rattle.lbm_model.specs.Small.{IsSmall, IsNarrow};
+ghost use Rattle.lbm_flow.specs.Plain.{Steps, Streams};
 
-use crate::End;
-use crate::moments::populations_of;
+use crate::measures::populations_of;
 use lbm_cell::Pops;
 use lbm_model::cell::{post, sound};
-use lbm_model::first::first_state;
-use lbm_model::{Case, SetKind, State};
-use lbm_space::{D2Q9, D3Q19, Memory, VelocitySet};
+use lbm_model::{Case, Gate, Pattern, State, StepEnd};
+use lbm_space::{Memory, VelocitySet};
 use std::alloc::Global;
+use std::marker::{Model, PhantomData, Sync};
 use std::mem;
-
-/// The state of a case after so many steps from its first state on, or the first state out of limits.
-pub(crate) fn run_plain(alloc: Global, case: &Case, steps: u32) -> Result<State, End>
-    ensures state { Runs case.now steps result }
-    ensures valid { IsCase case.now }
-{
-    match case.set() {
-        SetKind::D2Q9 => run_by::<D2Q9>(alloc, case, steps),
-        SetKind::D3Q19 => run_by::<D3Q19>(alloc, case, steps),
-    }
-}
-
-fn run_by<V: VelocitySet>(alloc: Global, case: &Case, steps: u32) -> Result<State, End>
-    requires set { case.now.stencil ≡ V.stencil }
-    requires valid { IsCase case.now }
-    ensures { Runs case.now steps result }
-{
-    let mut plain = Plain::start::<V>(alloc, case)?;
-    for step in 0..steps {
-        if let Some(cell) = plain.step::<V>(case) {
-            return Err(End::Range {
-                step: u64::from(step),
-                cell,
-            });
-        }
-    }
-    match first_unsound::<V>(case, &plain.now) {
-        Some(cell) => Err(End::Range {
-            step: u64::from(steps),
-            cell,
-        }),
-        None => Ok(State::new(V::Q as u32, plain.now)),
-    }
-}
+use std::thread::Threads;
 
 /// A lattice of 32-bit populations, in order of cell and then direction, and a second one of the same size, which
 /// the next state is written to.
 #[derive(Drop)]
-struct Plain {
+pub(crate) struct Plain<V: VelocitySet> {
+    set: PhantomData<V>,
+    case: Case,
     now: Vec<i32>,
     next: Vec<i32>,
+    time: u64,
+    spent: Option<u32>,
 }
 
-impl Plain {
-    ghost use Rattle.lbm_flow.specs.Lattices.{IsPlain, StepsPlain, state_in};
+impl<V: VelocitySet> Model for Plain<V> {
+    ghost use Rattle.lbm_model.specs.Standing.{Standing};
+    ghost use Rattle.lbm_flow.specs.Lattices.{IsPlain, plain_standing};
 
-    /// Both lattices of a case, at its first state.
-    fn start<V: VelocitySet>(alloc: Global, case: &Case) -> Result<Plain, Memory>
-        requires set { case.now.stencil ≡ V.stencil }
-        requires case { IsCase case.now }
-        ensures valid { IfOk result (λ plain. IsPlain case.now V.stencil plain) }
-        ensures state { IfOk result (λ plain. state_in V.stencil plain ≡ first case.now) }
+    ghost Value = { Standing };
+
+    ghost view = { λ p. plain_standing V.stencil p.case p.time p.spent p.now.items };
+
+    ghost invariant = { λ p. IsPlain V.stencil p.case p.now.items p.next.items };
+}
+
+impl<V: VelocitySet> Plain<V> {
+    /// Both lattices of a case, at a state of it in which no population is above 2^28 in size, and a time.
+    pub(crate) fn start(
+        alloc: Global,
+        case: Case,
+        state: &State,
+        time: u64,
+    ) -> Result<Plain<V>, Memory>
+        requires set { case.stencil ≡ V.stencil }
+        requires state { IsStateOf case state.now }
+        requires narrow { IsNarrow state.now }
+        ensures { IfOk result (λ plain. plain ≡ (record { case = case; time = time; spent = None; state = state.now })) }
     {
-        let now = first_state::<V>(alloc, case)?.into_pops();
+        let _ = case.set();
+        let mut now = Vec::with_capacity(alloc, state.pops().len())?;
+        now.extend_from_slice(state.pops())?;
         let next = vec![in alloc; 0i32; now.len()]?;
-        Ok(Plain { now, next })
+        Ok(Plain {
+            set: PhantomData,
+            case,
+            now,
+            next,
+            time,
+            spent: None,
+        })
+    }
+}
+
+impl<V: VelocitySet, G: Gate> Pattern<G> for Plain<V> {
+    const WANTS_MEMORY: bool = false;
+
+    ghost WANTS_MEMORY = { false };
+
+    ghost standing = { λ s. s };
+
+    fn case(&self) -> &Case {
+        &self.case
     }
 
-    /// One step, or the least cell out of limits.
-    fn step<V: VelocitySet>(&mut self, case: &Case) -> Option<u32>
-        requires set { case.now.stencil ≡ V.stencil }
-        requires case { IsCase case.now }
-        requires valid { IsPlain case.now V.stencil self.old }
-        ensures { StepsPlain case.now V.stencil self.old self.new result }
-    {
-        let unsound = advance::<V>(case, &self.now, &mut self.next);
-        if unsound.is_none() {
-            mem::swap(&mut self.now, &mut self.next);
+    fn time(&self) -> u64 {
+        self.time
+    }
+
+    fn spent(&self) -> Option<u32> {
+        self.spent
+    }
+
+    fn step<R: Threads + Sync>(&mut self, _rt: &R, _gate: &G) -> Result<(), StepEnd> {
+        if let Some(cell) = self.spent {
+            return Err(StepEnd::Range(cell));
         }
-        unsound
+        if let Some(cell) = advance::<V>(&self.case, &self.now, &mut self.next) {
+            self.spent = Some(cell);
+            return Err(StepEnd::Range(cell));
+        }
+        mem::swap(&mut self.now, &mut self.next);
+        self.time += 1;
+        Ok(())
+    }
+
+    fn get(&self, cell: u32, dir: u32) -> i64 {
+        i64::from(self.now[cell as usize * V::Q + dir as usize])
+    }
+
+    fn check(&self) -> Option<u32> {
+        first_unsound::<V>(&self.case, &self.now)
     }
 }
 

@@ -6,8 +6,8 @@ ghost use Rattle.lbm_flow.specs.Run.{IsSmallMoment, moment_part, total};
 use lbm_cell::Moment;
 use lbm_model::State;
 
-/// The mass of a state: the sum of all populations of all cells, walls included.
-pub(crate) fn mass(state: &State) -> i64
+/// The mass of a state: the sum of all populations of all cells, walls included, in lattice units.
+pub fn mass(state: &State) -> i64
     ensures { result ≡ mass state.now }
 {
     sum_of(state.pops())

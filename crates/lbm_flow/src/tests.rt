@@ -1,5 +1,5 @@
-// Worked cases, over a store and a sink in memory. The numbers were worked out by hand, but for the bytes of the format.
-use crate::{CaseFault, End, File, run_words};
+// The words, faults and want of memory, over a store and a sink in memory.
+use crate::{End, File, run_words};
 use lbm_model::NoGate;
 use lbm_space::Memory;
 use lbm_store::{MapStore, VecSink};
@@ -56,11 +56,7 @@ VECTORS momentum int
 0 0 0
 ";
 
-const PUSHED: &str = "set = \"D2Q9\"\nomega = [1, 1]\nforce = [1, 0, 0]\nmap = [\".\"]\n";
-
-const LEAVING: &str = "set = \"D2Q9\"\nomega = [1, 1]\nforce = [1024, 0, 0]\nmap = [\".\"]\n";
-
-fn words_of(alloc: Global, texts: &[&str]) -> Result<Vec<String>, AllocError> {
+pub(crate) fn words_of(alloc: Global, texts: &[&str]) -> Result<Vec<String>, AllocError> {
     let mut words = Vec::new(alloc);
     for text in texts {
         words.push(String::from_str(alloc, text)?)?;
@@ -69,7 +65,7 @@ fn words_of(alloc: Global, texts: &[&str]) -> Result<Vec<String>, AllocError> {
 }
 
 // The answer to these words, where the file `c` holds the case, and what the sink has got.
-fn answer<R: Threads + Sync + AllocGlobal>(
+pub(crate) fn answer<R: Threads + Sync + AllocGlobal>(
     rt: &R,
     store: &mut MapStore,
     words: &[&str],
@@ -81,7 +77,7 @@ fn answer<R: Threads + Sync + AllocGlobal>(
     Ok((end, sink))
 }
 
-fn store_with(alloc: Global, case: &str, failing: Vec<u64>) -> Result<MapStore, Memory> {
+pub(crate) fn store_with(alloc: Global, case: &str, failing: Vec<u64>) -> Result<MapStore, Memory> {
     let mut store = MapStore::new(alloc, failing);
     store.put("c", case.as_bytes())?;
     Ok(store)
@@ -105,38 +101,6 @@ fn a_lattice_at_rest_stays_at_rest(rt: HostRuntime) -> Result<(), Fail> {
 }
 
 #[test]
-fn a_force_pushes_by_twelve_units_a_step(rt: HostRuntime) -> Result<(), Fail> {
-    let alloc = rt.alloc();
-    for (steps, line) in [
-        ("1", "step 1 mass 884736 momentum 12 0 0\n"),
-        ("2", "step 2 mass 884736 momentum 24 0 0\n"),
-    ] {
-        let mut store = store_with(alloc, PUSHED, Vec::new(alloc))?;
-        let (end, sink) = answer(&rt, &mut store, &["run", "c", steps, "o"])?;
-        assert_eq!(rt; end, End::Done);
-        assert_eq!(rt; sink.bytes(), line.as_bytes());
-    }
-    Ok(())
-}
-
-#[test]
-fn a_strong_force_leaves_the_limits_at_step_60(rt: HostRuntime) -> Result<(), Fail> {
-    let alloc = rt.alloc();
-    let range = End::Range { step: 60, cell: 0 };
-    for (steps, want) in [("59", End::Done), ("60", range), ("61", range)] {
-        let mut store = store_with(alloc, LEAVING, Vec::new(alloc))?;
-        let (end, sink) = answer(&rt, &mut store, &["run", "c", steps, "o"])?;
-        assert_eq!(rt; end, want, "after {steps} steps");
-        if want == range {
-            assert_eq!(rt; end.status(), 5);
-            assert_eq!(rt; sink.bytes(), b"range: step 60 cell 0\n".as_slice());
-            assert!(rt; store.bytes("o").is_none());
-        }
-    }
-    Ok(())
-}
-
-#[test]
 fn words_that_ask_for_nothing_are_refused(rt: HostRuntime) -> Result<(), Fail> {
     let alloc = rt.alloc();
     let refused: [&[&str]; 9] = [
@@ -156,32 +120,6 @@ fn words_that_ask_for_nothing_are_refused(rt: HostRuntime) -> Result<(), Fail> {
         assert_eq!(rt; end, End::Usage);
         assert_eq!(rt; end.status(), 2);
         assert_eq!(rt; sink.bytes(), b"refused: usage\n".as_slice());
-    }
-    Ok(())
-}
-
-#[test]
-fn cases_of_another_form_are_refused(rt: HostRuntime) -> Result<(), Fail> {
-    let alloc = rt.alloc();
-    let refused = [
-        "",
-        "set =",
-        "set = \"D2Q9\"\nomega = [1, 1]\n",
-        "set = \"D3Q19\"\nomega = [1, 1]\nmap = [\".\"]\n",
-        "set = \"D2Q9\"\nomega = [2, 1]\nmap = [\".\"]\n",
-        "set = \"D2Q9\"\nomega = [1, 1]\nmap = [\".\", \"..\"]\n",
-        "set = \"D2Q9\"\nomega = [1, 1]\nmap = [\"#\"]\n",
-        "set = \"D2Q9\"\nomega = [1, 1]\nmap = []\n",
-        "set = \"D2Q9\"\nomega = [1, 1]\nforce = [0, 0, 1]\nmap = [\".\"]\n",
-        "set = \"D2Q9\"\nomega = [1, 1]\ncolour = 1\nmap = [\".\"]\n",
-    ];
-    for case in refused {
-        let mut store = store_with(alloc, case, Vec::new(alloc))?;
-        let (end, sink) = answer(&rt, &mut store, &["run", "c", "5", "o"])?;
-        assert_eq!(rt; end, End::Case(CaseFault::NotBuilt), "at {case}");
-        assert_eq!(rt; end.status(), 3);
-        assert_eq!(rt; sink.bytes(), b"refused: case not built\n".as_slice());
-        assert!(rt; store.bytes("o").is_none());
     }
     Ok(())
 }

@@ -1,0 +1,12 @@
+pub mod TableLemmas
+pub mod SettingsLemmas
+pub mod Places
+pub mod DrawingLemmas
+pub mod Numbered
+pub mod Ranges
+pub mod Boxes
+pub mod Even
+pub mod DataSizes
+pub mod TextSizes
+pub mod TableSizes
+pub mod SmallRows

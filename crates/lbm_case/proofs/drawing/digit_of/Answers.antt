@@ -1,0 +1,11 @@
+use Rattle.std.proofs.Common.{arith}
+use Rattle.std.proofs.lemmas.Int.{ints}
+use Rattle.lbm_case.specs.Views.{settings_view}
+use Rattle.lbm_case.proofs.Ranges.{digit_within}
+use Rattle.lbm_case.proofs.drawing.digit_of.Goals as goal
+
+pub overflow_cast-result : goal.overflow_cast-result
+overflow_cast-result c = let known = digit_within (settings_view c.args.settings.now) c.requires in (omega (arith, ints), omega (arith, ints))
+
+pub returns-clause-greatest : goal.returns-clause-greatest
+returns-clause-greatest c = let known = digit_within (settings_view c.args.settings.now) c.requires in omega (arith, ints)

@@ -1,0 +1,30 @@
+-- That nothing but a counted fault and want of memory keeps a call from the answer of the definition.
+use Rattle.std.specs.Prelude.{◌≡◌, ◌⊎◌, ℕ, List, Result, Ok, Err}
+use Rattle.std.specs.Option.{ForSome}
+use Rattle.lbm_store.specs.Outside.{Files, StoreState, SinkState, Rose}
+use Rattle.lbm_flow.specs.declared.answer.File.TheVariants.{CaseFile, Out}
+use Rattle.lbm_flow.specs.declared.answer.End.{End}
+use Rattle.lbm_flow.specs.declared.answer.End.TheVariants.{Done, Memory}
+use Rattle.lbm_flow.specs.Words.{Request, request_of}
+use Rattle.lbm_flow.specs.Outcome.{Finished, outcome}
+use Rattle.lbm_flow.specs.Answer.{FaultRose}
+
+-- the answer of the definition
+abbrev pub answer_of : Result Finished End → End
+answer_of (Ok run) = Done
+answer_of (Err refused) = refused
+
+abbrev pub answer_to : Result Request End → Files → End
+answer_to (Ok request) files = answer_of (outcome request files)
+answer_to (Err refused) files = refused
+
+-- the store has counted a fault of a file that the words name
+abbrev pub StoreRose : Result Request End → StoreState → StoreState → Type 0
+StoreRose (Ok request) before after = FaultRose request CaseFile before after ⊎ FaultRose request Out before after
+StoreRose (Err refused) before after = ⊥
+
+-- where nothing was counted, the answer is that of the definition or want of memory
+abbrev pub IsComplete : List (List ℕ) → StoreState → StoreState → SinkState → SinkState → End → Type 0
+IsComplete words store store_after sink sink_after end =
+    ¬ (StoreRose (request_of words) store store_after) → ¬ (Rose sink.faults sink_after.faults)
+    → ForSome store.files (λ files. (end ≡ answer_to (request_of words) files) ⊎ (end ≡ Memory))
