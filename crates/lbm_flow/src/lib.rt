@@ -24,4 +24,6 @@ pub use top::run_words;
 #[cfg(test)]
 mod case_tests;
 #[cfg(test)]
+mod example_tests;
+#[cfg(test)]
 mod tests;
