@@ -53,7 +53,7 @@ x_of-cell_number t x y z below =
     let e : x + t.nx * (y + t.ny * z) ≡ (y + t.ny * z) * t.nx + x = omega arith in
     rw e (mod-mul-add (y + t.ny * z) t.nx x below)
 
-line_of-cell_number : (t : Torus) (x y z : ℕ) → x < t.nx → cell_number t x y z / t.nx ≡ z * t.ny + y
+pub line_of-cell_number : (t : Torus) (x y z : ℕ) → x < t.nx → cell_number t x y z / t.nx ≡ z * t.ny + y
 line_of-cell_number t x y z below =
     let e : x + t.nx * (y + t.ny * z) ≡ (y + t.ny * z) * t.nx + x = omega arith in
     rw e (div-mul-add (y + t.ny * z) t.nx x below ∙ omega arith)

@@ -6,3 +6,4 @@ pub mod Offsets
 pub mod RowStarts
 pub mod Shifts
 pub mod Slabs
+pub mod Interior

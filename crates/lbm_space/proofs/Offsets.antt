@@ -5,7 +5,7 @@ use Rattle.std.proofs.lemmas.Int.{ints, clamps}
 use Rattle.std.specs.Int.{int_max}
 use Rattle.lbm_space.specs.Stencil.{Stencil, IsVelocitySet, velocity, opposite}
 use Rattle.lbm_space.specs.Torus.{Torus, IsSpace, cells, padded, back}
-use Rattle.lbm_space.specs.Padded.{pads_below, padded_index, offset, greatest_below, reach, wrap}
+use Rattle.lbm_space.specs.Padded.{pads_below, padded_index, offset, place_ahead, greatest_below, reach, wrap}
 use Rattle.lbm_space.proofs.Back.{HasCells-from_space, IsUnit, IsReverse, back_within, back-twice}
 use Rattle.lbm_space.proofs.Places.{IsUnitMove, some_cell, stepped, stepped_below, padded_index-offset, wrap-stepped, offset-reverse}
 
@@ -92,6 +92,20 @@ module _ (t : Torus) (space : IsSpace t) (v : Stencil) (laws : IsVelocitySet v) 
         let led : pos p ≡ pos (stepped t space (velocity v i) cell) = at ∙ padded_index-offset t space (velocity v i) cell (velocity_moves i known) in
         let place : p ≡ stepped t space (velocity v i) cell = cc in
         ap (wrap t) place ∙ wrap-stepped t space (velocity v i) (velocity v (opposite v i)) cell (velocity_moves i known) (opposite_reverses i known) here
+
+  module _ (i cell : ℕ) (known : i < v.directions) (here : cell < cells t) where
+    pub place_ahead_is : pos (place_ahead t (velocity v i) cell) ≡ pos (padded_index t cell) +ℤ offset t (velocity v i)
+    unfolding place_ahead
+    place_ahead_is = let low = moved_low i cell known here in omega (arith, ints)
+
+    pub place_ahead-stepped : place_ahead t (velocity v i) cell ≡ stepped t space (velocity v i) cell
+    place_ahead-stepped = let e : pos (place_ahead t (velocity v i) cell) ≡ pos (stepped t space (velocity v i) cell) = place_ahead_is ∙ padded_index-offset t space (velocity v i) cell (velocity_moves i known) in cc
+
+    pub place_ahead_below : place_ahead t (velocity v i) cell < padded t
+    place_ahead_below = rw place_ahead-stepped (stepped_below t space (velocity v i) cell (velocity_moves i known) here)
+
+    pub wrap-place_ahead : wrap t (place_ahead t (velocity v i) cell) ≡ back t (velocity v (opposite v i)) cell
+    wrap-place_ahead = wrap-ahead i cell known here (place_ahead t (velocity v i) cell) place_ahead_is
 
   -- no offset is greater than the reach, nor is its size
   pub reach_is : pos (reach t v) ≡ greatest_below v.directions (λ i. offset t (velocity v i))

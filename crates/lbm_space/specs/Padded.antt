@@ -20,6 +20,10 @@ padded_index t cell = cell_number (padded_box t) (x_of t cell + 1) (y_of t cell 
 unfoldable pub offset : Torus → List ℤ → ℤ
 offset t c = part c 0 +ℤ pos (t.nx + 2) *ℤ (part c 1 +ℤ pos (t.ny + 2) *ℤ part c 2)
 
+-- the place to which c leads from a cell, without wrapping
+unfoldable pub place_ahead : Torus → List ℤ → ℕ → ℕ
+place_ahead t c cell = unsigned_abs (pos (padded_index t cell) +ℤ offset t c)
+
 -- the greatest of 0, f 0, f 1, .., f (n - 1)
 abbrev pub greatest_below : ℕ → (ℕ → ℤ) → ℤ
 greatest_below zero f = pos 0

@@ -58,7 +58,8 @@ impl Cutting {
     pub fn even(alloc: Global, space: &Space, workers: u32) -> Result<Cutting, Memory>
         requires some { 1 ≤ workers }
         requires few { workers ≤ 64 }
-        ensures { IfOk result (IsEven (row_count space.now) workers) }
+        ensures even { IfOk result (IsEven (row_count space.now) workers) }
+        ensures whole { IfOk result (λ c. rows_of c ≡ row_count space.now) }
     {
         let rows = space.rows();
         let slabs = workers.min(rows);
@@ -75,6 +76,7 @@ impl Cutting {
     /// not below the number of rows. It is found before memory is asked for.
     pub fn of_rows(alloc: Global, space: &Space, rows: &[u32]) -> Result<Cutting, CutEnd>
         requires { length rows.now ≤ 4095 }
+        ensures whole { IfOk result (λ c. rows_of c ≡ row_count space.now) }
         ensures ok { IfOk result (λ c. c ≡ 0 ∷ rows.now ++ row_count space.now ∷ []) }
         ensures bad { (k : ℕ) → IsErrOf result (CutEnd.BadCut k) ↔ IsBadCut (row_count space.now) rows.now k }
     {

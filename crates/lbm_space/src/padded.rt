@@ -14,6 +14,7 @@ impl Space {
     /// The padded place of a cell.
     pub fn padded_index(&self, cell: u32) -> u32
         requires { cell < cells self.now }
+        ensures valid { IsSpace self.now }
         ensures index { result ≡ padded_index self.now cell }
         ensures known { result < padded self.now }
         ensures wraps { wrap self.now result ≡ cell }
@@ -40,6 +41,7 @@ impl Space {
     /// The greatest offset of the set's directions.
     pub fn reach<V: VelocitySet>(&self) -> u32
         requires { V.stencil.dimension ≡ self.now.dimension }
+        ensures valid { IsSpace self.now }
         ensures value { result ≡ reach self.now V.stencil }
         ensures greatest { (i : ℕ) → i < V.stencil.directions → offset self.now (velocity V.stencil i) ≤ℤ pos result }
         ensures reached { (i : ℕ) × (i < V.stencil.directions) × (offset self.now (velocity V.stencil i) ≡ pos result) }
@@ -55,6 +57,7 @@ impl Space {
     /// The cell for which a padded place stands, on the torus.
     pub fn wrap(&self, p: u32) -> u32
         requires { p < padded self.now }
+        ensures valid { IsSpace self.now }
         ensures cell { result ≡ wrap self.now p }
         ensures known { result < cells self.now }
 
@@ -72,6 +75,7 @@ impl Space {
     /// The padded place left of the first cell of a row; for the number of rows, the place at which the last row ends.
     pub fn row_start(&self, row: u32) -> u32
         requires { row ≤ rows self.now }
+        ensures valid { IsSpace self.now }
         ensures start { result ≡ row_start self.now row }
         ensures inside { result + self.now.nx + 2 ≤ padded self.now }
         ensures cells { (cell : ℕ) → cell < cells self.now → cell / self.now.nx ≡ row → padded_index self.now cell ≡ result + 1 + cell % self.now.nx }

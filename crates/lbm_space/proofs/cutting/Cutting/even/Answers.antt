@@ -37,3 +37,14 @@ invariant_of-result c =
     } in
     let whole = rows_from_even (rows t) c.args.workers bounds some work even in
     (cutting_from_even (rows t) c.args.workers bounds some work even, omega arith, omega (arith, whole, valid.fits))
+
+pub returns-clause-whole : goal.returns-clause-whole
+returns-clause-whole c =
+    let t = c.args.space.now in let valid = c.rows-rows.ensures.valid in
+    let total = c.rows-rows.ensures.count in let past = c.loop-k-test.false in let end = c.loop-k.auto.k-end in let count = c.loop-k.invariant.count in
+    let some = some_row t valid in let work = c.requires.some in
+    let least : c.min-slabs.result ≡ min c.args.workers (rows t) = c.min-slabs.ensures ∙ ap (min c.args.workers) total in
+    rows_from_even (rows t) c.args.workers c.loop-k.bounds.items some work (record {
+      count = omega arith;
+      firsts = λ k within. c.loop-k.invariant.firsts k (omega arith) ∙ (λ i. k * total i / least i);
+    })
