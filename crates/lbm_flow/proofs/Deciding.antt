@@ -1,143 +1,174 @@
--- What may be decided at each step.
-use Rattle.std.proofs.Common.{◌≡◌, ◌∙◌, ℕ, ◌<◌, ◌≤◌, List, [], ◌∷◌, length, Some, Ok, Err, inl, pos, ◌+ℤ◌, ◌*ℤ◌, refl, sym, ap, subst}
-use Rattle.std.proofs.lemmas.Bool.{le-leb, lt-leb}
-use Rattle.std.specs.Prelude.{MatchResult, IsOkAnd}
+-- What may be decided at each step of a run.
+use Rattle.std.proofs.Common.{◌≡◌, ◌∙◌, ℕ, List, [], ◌∷◌, Option, Some, None, Ok, Err, inl, inr, refl, sym, ap, subst}
+use Rattle.std.specs.Prelude.{IsNone, IsOkAnd, MatchResult, pos, ◌+ℤ◌, ◌*ℤ◌, ◌-◌}
 use Rattle.std.specs.Option.{ForSome}
-use Rattle.lbm_store.specs.Outside.{Files, StoreState, Rose, content}
-use Rattle.lbm_cell.specs.declared.populations.Moment.{Moment}
-use Rattle.lbm_model.specs.Case.{FlowCase, IsCase, all_gain}
+use Rattle.lbm_store.specs.Outside.{Files, StoreState, Rose}
 use Rattle.lbm_model.specs.State.{mass}
+use Rattle.lbm_model.specs.Case.{FlowCase, IsCase, all_gain}
 use Rattle.lbm_model.specs.Laws.{IsFlow}
-use Rattle.lbm_model.specs.Flow.{first, run}
-use Rattle.lbm_case.specs.declared.fault.CaseFault.{CaseFault}
-use Rattle.lbm_flow.specs.declared.answer.File.TheVariants.{CaseFile, Out}
-use Rattle.lbm_flow.specs.declared.answer.End.{End}
-use Rattle.lbm_flow.specs.declared.answer.End.TheVariants.{Done, Usage, Case, TooLong, Range, StoreFault, SinkFault, Memory}
-use Rattle.lbm_flow.specs.declared.answer.Report.{Report}
-use Rattle.lbm_flow.specs.Words.{Request, request_of}
-use Rattle.lbm_case.specs.CaseOf.{case_of}
-use Rattle.lbm_flow.specs.Outcome.{Finished, Written, CutShort, case_limit, outcome, concluded, finished, written}
-use Rattle.lbm_flow.specs.Files.{ReadsCaseFile, SavesOut}
-use Rattle.lbm_flow.specs.Finishing.{Finishes, Prints}
-use Rattle.lbm_vtk.specs.Vtk.{vtk}
-use Rattle.lbm_flow.specs.Answer.{Decision, Decides, DecidesFor, KeepsMass}
 use Rattle.lbm_model.proofs.Mass.{mass-run}
-use Rattle.lbm_flow.proofs.Stepped.{first_is_state}
+use Rattle.lbm_case.specs.declared.fault.CaseEnd.{CaseEnd}
+use Rattle.lbm_case.specs.declared.fault.CaseEnd.TheVariants as case_ends
+use Rattle.lbm_case.specs.CaseOf.{case_of}
+use Rattle.lbm_case.specs.Refusals.{Refuses as CaseRefuses}
+use Rattle.lbm_flow.specs.declared.finish.Left.{Left}
+use Rattle.lbm_flow.specs.declared.answer.File.TheVariants.{CaseFile, Checkpoint, Out, Save}
+use Rattle.lbm_flow.specs.declared.answer.End.{End}
+use Rattle.lbm_flow.specs.declared.answer.End.TheVariants.{Done, Usage, Case, TooLong, Cut, Checkpoint as BadCheckpoint, Past, Range, StoreFault, SinkFault, Memory}
+use Rattle.lbm_flow.specs.declared.report.Report.TheVariants.{Run}
+use Rattle.lbm_flow.specs.Causes.{case_end}
+use Rattle.lbm_flow.specs.Reports.{mass_of}
+use Rattle.lbm_flow.specs.Outcome.{Job, Beginning, Written, OfFiles, CutAt, CutShort, admitted, bad_cut, begun, concluded, job_outcome, run_from, written}
+use Rattle.lbm_flow.specs.Jobs.{Begins, CanBegin, Cuts, Finishes, Leaves, NthRose, SavesAll, checkpoint_file, left_files}
+use Rattle.lbm_flow.specs.Answer.{Asked, DecidesFor, KeepsMass, NamedRose, asked_of_job}
+use Rattle.lbm_flow.proofs.Asked.{admitted-fault, admitted-cut, admitted-ok, job_outcome-refused, job_outcome-unbegun, job_outcome-begun, keeps-begun}
+use Rattle.lbm_flow.proofs.LeftFiles.{finished-left}
 
--- words that ask for something
-pub decides-for : (words : List (List ℕ)) (request : Request) (before after : StoreState) (decision : Decision)
-    → request_of words ≡ Ok request → DecidesFor request before after decision → Decides (request_of words) before after decision
-decides-for words request before after decision is for = subst (λ r. Decides r before after decision) (sym is) for
+-- ---- want of memory, before a file was written
 
-pub CutShort-none : (files : List Written) (before : Files) → CutShort files before before
-CutShort-none [] before = refl
-CutShort-none (file ∷ rest) before = inl (record { front = inl refl; others = refl })
+CutShort-none : (files : List Written) (before : Files) → CutShort files before before
+CutShort-none [] before = inl refl
+CutShort-none (file ∷ rest) before = inr (0, record { front = inl refl; others = refl })
 
--- want of memory before a file was written
-pub for-memory : (request : Request) (before after : StoreState) → after.files ≡ before.files → DecidesFor request before after (Err Memory)
-for-memory request before after same = λ files told. (
+pub for-memory : (asked : Asked) (before after : StoreState) → after.files ≡ before.files → DecidesFor asked before after (Err Memory)
+for-memory asked before after same = λ files told. (
   files,
   same ∙ told,
-  elim (outcome request files) as (λ o. MatchResult o (λ run. CutShort run.files files files) (λ refused. files ≡ files)) [
-    | Ok run ↦ CutShort-none run.files files
+  elim (asked.outcome files) as (λ o. MatchResult o (λ left. CutShort left.files files files) (λ refused. files ≡ files)) [
+    | Ok left ↦ CutShort-none left.files files
     | Err refused ↦ refl
   ],
 )
 
-module _ (request : Request) (files : Files) where
-  outcome-case : (case : FlowCase) → length (content files request.case) ≤ case_limit → case_of (content files request.case) ≡ Ok case
-      → outcome request files ≡ concluded request case (run case (first case) 0 request.steps)
-  unfolding outcome
-  outcome-case case short is = rw (le-leb _ _ short, is) refl
-
-  outcome-fault : (fault : CaseFault) → length (content files request.case) ≤ case_limit → case_of (content files request.case) ≡ Err fault
-      → outcome request files ≡ Err (Case fault)
-  unfolding outcome
-  outcome-fault fault short is = rw (le-leb _ _ short, is) refl
-
-  outcome-long : case_limit < length (content files request.case) → outcome request files ≡ Err (TooLong CaseFile)
-  unfolding outcome
-  outcome-long long = rw (lt-leb _ _ long) refl
+-- ---- a run, step by step
 
 -- a case that was not read
-pub for-unread : (request : Request) (before after : StoreState) (end : End)
-    → ReadsCaseFile before after request.case (Err end) → after.files ≡ before.files → DecidesFor request before after (Err end)
-for-unread request before after (Case fault) read same = (same, λ files told. outcome-fault request files fault (read files told).0 (read files told).1)
-for-unread request before after (TooLong CaseFile) read same = (same, λ files told. outcome-long request files (read files told))
-for-unread request before after (TooLong Out) read same = absurd read
-for-unread request before after (StoreFault CaseFile) read same = (read, same)
-for-unread request before after (StoreFault Out) read same = absurd read
-for-unread request before after Memory read same = for-memory request before after same
-for-unread request before after (Range step cell) read same = absurd read
-for-unread request before after Done read same = absurd read
-for-unread request before after Usage read same = absurd read
-for-unread request before after SinkFault read same = absurd read
+pub for-uncased : (job : Job) (before : StoreState) (end : CaseEnd) → CaseRefuses end (case_of job.bytes) → DecidesFor (asked_of_job job) before before (Err (case_end end))
+for-uncased job before (case_ends.Fault fault) is = (refl, λ files told. job_outcome-refused job files (Case fault) (admitted-fault job fault is))
+for-uncased job before case_ends.Memory is = for-memory (asked_of_job job) before before refl
 
-module _ (request : Request) (before between after : StoreState) (case : FlowCase) (valid : IsCase case)
-    (read : ForSome before.files (λ files. (length (content files request.case) ≤ case_limit) × (case_of (content files request.case) ≡ Ok case)))
-    (files_same : between.files ≡ before.files)
-    (faults_same : between.write_faults ≡ before.write_faults) where
-  outcome-run : (files : Files) → before.files ≡ Some files → outcome request files ≡ concluded request case (run case (first case) 0 request.steps)
-  outcome-run files told = outcome-case request files case (read files told).0 (read files told).1
+module _ (job : Job) (case : FlowCase) (read : case_of job.bytes ≡ Ok case) (before : StoreState) where
+  -- a cutting that was not made
+  pub for-uncut : (end : End) → Cuts case.torus job.cut (Err end) → DecidesFor (asked_of_job job) before before (Err end)
+  for-uncut (Cut k) cuts = (refl, λ files told. job_outcome-refused job files (Cut k) (admitted-cut job case read k cuts))
+  for-uncut Memory cuts = for-memory (asked_of_job job) before before refl
+  for-uncut Done cuts = absurd cuts
+  for-uncut Usage cuts = absurd cuts
+  for-uncut (Case fault) cuts = absurd cuts
+  for-uncut (TooLong file) cuts = absurd cuts
+  for-uncut (BadCheckpoint fault) cuts = absurd cuts
+  for-uncut (Past at to) cuts = absurd cuts
+  for-uncut (Range step cell) cuts = absurd cuts
+  for-uncut (StoreFault file) cuts = absurd cuts
+  for-uncut SinkFault cuts = absurd cuts
 
-  -- a run that was not finished
-  pub for-unfinished : (A : Type 0) (end : End) → Finishes {A = A} case request.steps (Err end) → DecidesFor request before between (Err end)
-  for-unfinished A (Range step cell) finishes = (files_same, λ files told. outcome-run files told ∙ ap (concluded request case) finishes)
-  for-unfinished A Memory finishes = for-memory request before between files_same
-  for-unfinished A (Case fault) finishes = absurd finishes
-  for-unfinished A (TooLong file) finishes = absurd finishes
-  for-unfinished A (StoreFault file) finishes = absurd finishes
-  for-unfinished A Done finishes = absurd finishes
-  for-unfinished A Usage finishes = absurd finishes
-  for-unfinished A SinkFault finishes = absurd finishes
+no_bad_cut : (bad : Option ℕ) → IsNone bad → bad ≡ None
+no_bad_cut None none = refl
+no_bad_cut (Some k) none = absurd cc
 
-  module _ (moments : List Moment) (report : Report) (prints : Prints case request.steps moments report) where
-    abbrev pub file : Written
-    file = record { name = request.out; bytes = vtk case.torus request.steps moments }
+pub admitted-cuts : (job : Job) (case : FlowCase) → case_of job.bytes ≡ Ok case → IsNone (bad_cut case.torus job.cut) → admitted job ≡ Ok case
+admitted-cuts job case read good = admitted-ok job case read (no_bad_cut _ good)
 
-    -- what the run leaves, by what was printed of it
-    abbrev left : Finished
-    left = record { files = file ∷ []; report = report }
+module _ (job : Job) (case : FlowCase) (is_admitted : admitted job ≡ Ok case) (before between : StoreState) (same : between.files ≡ before.files) where
+  -- a run that did not begin
+  pub for-unbegun : (end : End) → Begins job case before between (Err end) → DecidesFor (asked_of_job job) before between (Err end)
+  for-unbegun (StoreFault Checkpoint) begins =
+      let rose : NamedRose before.read_faults between.read_faults job.resume = rw (begins.1) begins.2 in
+      (rose, same, λ files told. rw is_admitted refl)
+  for-unbegun (TooLong Checkpoint) begins = (same, λ files told. job_outcome-unbegun job case files is_admitted _ (begins files told))
+  for-unbegun (BadCheckpoint fault) begins = (same, λ files told. job_outcome-unbegun job case files is_admitted _ (begins files told))
+  for-unbegun (Past at to) begins = (same, λ files told. job_outcome-unbegun job case files is_admitted _ (begins files told))
+  for-unbegun Memory begins = for-memory (asked_of_job job) before between same
+  for-unbegun (StoreFault CaseFile) begins = absurd begins
+  for-unbegun (StoreFault Out) begins = absurd begins
+  for-unbegun (StoreFault Save) begins = absurd begins
+  for-unbegun (TooLong CaseFile) begins = absurd begins
+  for-unbegun (TooLong Out) begins = absurd begins
+  for-unbegun (TooLong Save) begins = absurd begins
+  for-unbegun Done begins = absurd begins
+  for-unbegun Usage begins = absurd begins
+  for-unbegun (Case fault) begins = absurd begins
+  for-unbegun (Cut k) begins = absurd begins
+  for-unbegun (Range step cell) begins = absurd begins
+  for-unbegun SinkFault begins = absurd begins
 
-    outcome-left : (files : Files) → before.files ≡ Some files → outcome request files ≡ Ok left
-    outcome-left files told =
-        let full = finished request case prints.state in
-        let with_file : List Moment → Report → Finished = λ ms r. record { files = record { name = request.out; bytes = vtk case.torus request.steps ms } ∷ []; report = r } in
-        let same : full ≡ left = ap (λ ms. with_file ms full.report) (sym prints.moments_are) ∙ ap (with_file moments) (sym prints.report_is) in
-        outcome-run files told ∙ ap (concluded request case) prints.end ∙ ap (λ f. Ok f) same
+  module _ (begin : Beginning) (begins : ForSome before.files (λ files. begun job files case ≡ Ok begin)) where
+    outcome-run : (files : Files) → before.files ≡ Some files → job_outcome job files ≡ concluded job case (run_from case job.steps begin)
+    outcome-run files told = job_outcome-begun job case files is_admitted begin (begins files told)
 
-    -- the mass that is reported
-    keeps-mass : (files : Files) → before.files ≡ Some files → KeepsMass request files report
-    keeps-mass files told =
-        let flow : IsFlow case (first case) = record { set = valid.set; space = valid.space; state = first_is_state case } in
-        let law : report.mass ≡ mass (first case) +ℤ (pos request.steps *ℤ all_gain case) =
-        ap (λ r. r.mass) prints.report_is ∙ mass-run case (first case) prints.state 0 request.steps flow prints.end in
-        rw (read files told).1 law
+    -- a run that was not finished
+    pub for-unfinished : (end : End) → Finishes case job.steps begin (Err end) → DecidesFor (asked_of_job job) before between (Err end)
+    for-unfinished (Range step cell) finishes = (same, λ files told. outcome-run files told ∙ ap (concluded job case) finishes)
+    for-unfinished Memory finishes = for-memory (asked_of_job job) before between same
+    for-unfinished Done finishes = absurd finishes
+    for-unfinished Usage finishes = absurd finishes
+    for-unfinished (Case fault) finishes = absurd finishes
+    for-unfinished (TooLong file) finishes = absurd finishes
+    for-unfinished (Cut k) finishes = absurd finishes
+    for-unfinished (BadCheckpoint fault) finishes = absurd finishes
+    for-unfinished (Past at to) finishes = absurd finishes
+    for-unfinished (StoreFault file) finishes = absurd finishes
+    for-unfinished SinkFault finishes = absurd finishes
 
-    -- a file that was written
-    pub for-saved : SavesOut between after file (Ok tt) → DecidesFor request before after (Ok report)
-    for-saved saved = λ files told.
-        let t = saved files (files_same ∙ told) in (
-          t.0,
-          t.1,
-          (subst (λ o. IsOkAnd o (λ run. (run.report ≡ report) × (t.0 ≡ written run.files files))) (sym (outcome-left files told)) (refl, t.2), keeps-mass files told),
-        )
+    module _ (left : Left) (leaves : Leaves case job.steps begin left) where
+      outcome-left : (files : Files) → before.files ≡ Some files → job_outcome job files ≡ Ok (record { files = left_files job left; report = Run left.report })
+      outcome-left files told =
+          outcome-run files told ∙ ap (concluded job case) leaves.ends ∙ ap (λ f. Ok f) (finished-left job case begin left leaves)
 
-    -- a file that was not
-    pub for-unsaved : (end : End) → SavesOut between after file (Err end) → DecidesFor request before after (Err end)
-    for-unsaved (StoreFault Out) saved = (
-      subst (λ f. Rose (f request.out) (after.write_faults request.out)) faults_same saved.0,
-      λ files told.
-          let t = saved.1 files (files_same ∙ told) in
-          (t.0, t.1, subst (λ o. IsOkAnd o (λ run. CutShort run.files files t.0)) (sym (outcome-left files told)) (inl t.2)),
-    )
-    for-unsaved Memory saved = λ files told.
-        let t = saved files (files_same ∙ told) in
-        (t.0, t.1, subst (λ o. MatchResult o (λ run. CutShort run.files files t.0) (λ refused. t.0 ≡ files)) (sym (outcome-left files told)) (inl t.2))
-    for-unsaved (StoreFault CaseFile) saved = absurd saved
-    for-unsaved (Case fault) saved = absurd saved
-    for-unsaved (TooLong file) saved = absurd saved
-    for-unsaved (Range step cell) saved = absurd saved
-    for-unsaved Done saved = absurd saved
-    for-unsaved Usage saved = absurd saved
-    for-unsaved SinkFault saved = absurd saved
+      keeps-left : (valid : IsCase case) → CanBegin case job.steps begin → (files : Files) → before.files ≡ Some files → KeepsMass job files (Run left.report)
+      keeps-left valid can files told =
+          let flow : IsFlow case begin.state = record { set = valid.set; space = valid.space; state = can.state } in
+          let law : mass left.state ≡ mass begin.state +ℤ (pos (job.steps - begin.time) *ℤ all_gain case) =
+          mass-run case begin.state left.state begin.time (job.steps - begin.time) flow leaves.ends in
+          keeps-begun job case files is_admitted begin (Run left.report) (begins files told) (ap mass_of leaves.report ∙ law)
+
+      -- files that were written
+      pub for-saved : (after : StoreState) → IsCase case → CanBegin case job.steps begin → SavesAll (left_files job left) between after (Ok tt)
+          → DecidesFor (asked_of_job job) before after (Ok (Run left.report))
+      for-saved after valid can saves = λ files told.
+          let t = saves files (same ∙ told) in (
+            t.0,
+            t.1,
+            (
+              subst (λ o. IsOkAnd o (λ run. (run.report ≡ Run left.report) × (t.0 ≡ written run.files files))) (sym (outcome-left files told)) (refl, t.2),
+              keeps-left valid can files told,
+            ),
+          )
+
+      -- the files of the store, where the writing stopped at one of them
+      stops : (k : ℕ) (after : StoreState) → OfFiles between after (λ old now. CutAt k (left_files job left) old now)
+          → OfFiles before after (λ files now. IsOkAnd (job_outcome job files) (λ run. CutAt k run.files files now))
+      stops k after cut = λ files told.
+          let t = cut files (same ∙ told) in
+          (t.0, t.1, subst (λ o. IsOkAnd o (λ run. CutAt k run.files files t.0)) (sym (outcome-left files told)) t.2)
+
+      named : (save : Option (List ℕ)) (after : StoreState) → NthRose 0 (checkpoint_file job left save) between after
+          → NamedRose between.write_faults after.write_faults save
+      named None after rose = absurd rose
+      named (Some name) after rose = rose
+
+      -- files that were not
+      pub for-unsaved : (after : StoreState) → between.write_faults ≡ before.write_faults → (end : End) → SavesAll (left_files job left) between after (Err end)
+          → DecidesFor (asked_of_job job) before after (Err end)
+      for-unsaved after faults (StoreFault Out) saves = (
+        subst (λ f. Rose (f job.out) (after.write_faults job.out)) faults saves.0,
+        stops 0 after saves.1,
+      )
+      for-unsaved after faults (StoreFault Save) saves = (
+        subst (λ f. NamedRose f after.write_faults job.save) faults (named job.save after saves.0),
+        stops 1 after saves.1,
+      )
+      for-unsaved after faults Memory saves = λ files told.
+          let t = saves files (same ∙ told) in
+          (t.0, t.1, subst (λ o. MatchResult o (λ run. CutShort run.files files t.0) (λ refused. t.0 ≡ files)) (sym (outcome-left files told)) t.2)
+      for-unsaved after faults (StoreFault CaseFile) saves = absurd saves
+      for-unsaved after faults (StoreFault Checkpoint) saves = absurd saves
+      for-unsaved after faults Done saves = absurd saves
+      for-unsaved after faults Usage saves = absurd saves
+      for-unsaved after faults (Case fault) saves = absurd saves
+      for-unsaved after faults (TooLong file) saves = absurd saves
+      for-unsaved after faults (Cut k) saves = absurd saves
+      for-unsaved after faults (BadCheckpoint fault) saves = absurd saves
+      for-unsaved after faults (Past at to) saves = absurd saves
+      for-unsaved after faults (Range step cell) saves = absurd saves
+      for-unsaved after faults SinkFault saves = absurd saves

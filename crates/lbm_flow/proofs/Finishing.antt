@@ -1,41 +1,42 @@
--- How a run of a pattern from the first state finishes.
-use Rattle.std.proofs.Common.{◌≡◌, ◌∙◌, ℕ, ◌-◌, ◌+◌, List, Bool, None, Ok, Err, ap, sym, arith}
-use Rattle.lbm_cell.specs.declared.populations.Moment.{Moment}
+-- What a run of a pattern leaves, by where it begins.
+use Rattle.std.proofs.Common.{◌≡◌, ◌∙◌, ℕ, zero, suc, ◌-◌, ◌+◌, Bool, None, Ok, ap, sym, subst, arith}
 use Rattle.lbm_model.specs.Case.{FlowCase}
-use Rattle.lbm_model.specs.Flow.{first, run}
+use Rattle.lbm_model.specs.State.{FlowState}
+use Rattle.lbm_model.specs.Flow.{IsStateOf, run, reached}
 use Rattle.lbm_model.specs.Standing.{Standing}
-use Rattle.lbm_flow.specs.declared.answer.Report.{Report}
-use Rattle.lbm_flow.specs.declared.run.RunEnd.{RunEnd}
-use Rattle.lbm_flow.specs.declared.run.RunEnd.TheVariants.{Range, Memory}
-use Rattle.lbm_flow.specs.Causes.{run_end}
-use Rattle.lbm_flow.specs.Run.{printed_moments, report_of}
-use Rattle.lbm_flow.specs.Running.{RunGives}
-use Rattle.lbm_flow.specs.Finishing.{Prints, Concludes, Finishes}
+use Rattle.lbm_model.proofs.Mass.{IsStateOf-next}
+use Rattle.lbm_flow.specs.declared.finish.Left.{Left}
+use Rattle.lbm_flow.specs.Reports.{printed_moments, run_report}
+use Rattle.lbm_flow.specs.Outcome.{Beginning, run_from}
+use Rattle.lbm_flow.specs.Running.{RunGives, after}
+use Rattle.lbm_flow.specs.Jobs.{CanBegin, Leaves, LeavesOf}
 
--- a pattern that stands for the first state
-abbrev pub at_first : FlowCase → Standing
-at_first case = record { case = case; time = 0; spent = None; state = first case }
+-- a pattern that stands for where a run begins
+abbrev pub at_beginning : FlowCase → Beginning → Standing
+at_beginning case begin = record { case = case; time = begin.time; spent = None; state = begin.state }
 
-module _ (case : FlowCase) (steps : ℕ) (old new : Standing) (begins : old ≡ at_first case) where
-  -- its run, counted from the first state
-  from_first : run old.case old.state old.time (steps - old.time) ≡ run case (first case) 0 steps
-  from_first =
-      let all : steps - 0 ≡ steps = omega arith in
-      ap (λ now. run now.case now.state now.time (steps - now.time)) begins ∙ ap (run case (first case) 0) all
+-- steps keep to the states of the case
+is_state-after : (case : FlowCase) (s : FlowState) (n : ℕ) → IsStateOf case s → IsStateOf case (after case s n)
+is_state-after case s zero state = state
+is_state-after case s (suc n) state = IsStateOf-next case (after case s n)
 
-  pub finishes-early : (A : Type 0) (wants : Bool) (end : RunEnd) → RunGives wants old new steps (Err end) → Finishes {A = A} case steps (Err (run_end end))
-  finishes-early A wants (Range step cell) gives = sym from_first ∙ gives.0
-  finishes-early A wants Memory gives = tt
-
-  pub finishes-whole : (wants : Bool) (moments : List Moment) (report : Report) → RunGives wants old new steps (Ok tt) → Concludes new moments report
-      → Prints case steps moments report
-  finishes-whole wants moments report gives concludes =
-      let case_is : new.case ≡ case = gives.1.case ∙ ap (λ now. now.case) begins in
-      let all : 0 + (steps - 0) ≡ steps = omega arith in
-      let time_is : new.time ≡ steps = gives.1.time ∙ ap (λ now. now.time + (steps - now.time)) begins ∙ all in
-      record {
-        state = new.state;
-        end = sym from_first ∙ gives.0;
-        moments_are = concludes.moments_are ∙ ap (λ c. printed_moments c new.state) case_is;
-        report_is = concludes.report_is ∙ ap (λ c. report_of c new.time new.state) case_is ∙ ap (λ t. report_of case t new.state) time_is;
-      }
+pub leaves-from : (case : FlowCase) (steps : ℕ) (begin : Beginning) (old new : Standing) (wants : Bool) (left : Left) → old ≡ at_beginning case begin
+    → CanBegin case steps begin → RunGives wants old new steps (Ok tt) → LeavesOf new left → Leaves case steps begin left
+leaves-from case steps begin old new wants left begins can gives leaves =
+    let ahead = can.ahead in
+    let ends : run_from case steps begin ≡ reached new.state =
+    ap (λ (now : Standing). run now.case now.state now.time (steps - now.time)) (sym begins) ∙ gives.0 in
+    let case_is : new.case ≡ case = gives.1.case ∙ ap (λ now. now.case) begins in
+    let all : begin.time + (steps - begin.time) ≡ steps = omega (arith, ahead) in
+    let time_is : new.time ≡ steps = gives.1.time ∙ ap (λ (now : Standing). now.time + (steps - now.time)) begins ∙ all in
+    let state_is : new.state ≡ after case begin.state (steps - begin.time) =
+    gives.1.state ∙ ap (λ (now : Standing). after now.case now.state (steps - now.time)) begins in
+    let whole : left.state ≡ after case begin.state (steps - begin.time) = leaves.state ∙ state_is in
+    record {
+      ends = ends ∙ ap (λ s. reached s) (sym leaves.state);
+      state = subst (IsStateOf case) (sym whole) (is_state-after case begin.state (steps - begin.time) can.state);
+      space = leaves.space ∙ ap (λ (c : FlowCase). c.torus) case_is;
+      moments = leaves.moments ∙ ap (λ c. printed_moments c new.state) case_is ∙ ap (printed_moments case) (sym leaves.state);
+      report = leaves.report ∙ ap (λ c. run_report c new.time new.state) case_is ∙ ap (λ t. run_report case t new.state) time_is
+          ∙ ap (run_report case steps) (sym leaves.state);
+    }

@@ -3,8 +3,16 @@ use Rattle.std.proofs.Common.{◌≡◌, ℕ, List, [], ◌++◌, length, take, 
 use Rattle.std.proofs.lemmas.List.{take-append-drop}
 use Rattle.std.proofs.Math.Seq.{drop-append_seam}
 use Rattle.std.specs.Option.{ForSome}
-use Rattle.lbm_store.specs.Outside.{StoreState, ReadsAt, content}
+use Rattle.lbm_store.specs.Outside.{Counts, StoreState, ReadsAt, SameBeside, content, with}
+use Rattle.lbm_store.proofs.Files.{with-is, with-with}
 use Rattle.lbm_flow.specs.Files.{HasRead}
+
+-- counts that are the same at a name and beside it
+pub same_counts : (name : List ℕ) (before now : Counts) → SameBeside name before now → now name ≡ before name → now ≡ before
+same_counts name before now beside here =
+    let back : with (with now name 0) name (before name) ≡ now = with-with now name 0 (before name) ∙ with-is now name (before name) here in
+    let there : with (with before name 0) name (before name) ≡ before = with-with before name 0 (before name) ∙ with-is before name (before name) refl in
+    sym back ∙ ap (λ (counts : Counts). with counts name (before name)) beside ∙ there
 
 pub HasRead-none : (store : StoreState) (name : List ℕ) → HasRead store store name []
 HasRead-none store name = record {
@@ -19,7 +27,7 @@ pub HasRead-more : (before now after : StoreState) (name bytes buffer piece : Li
     → HasRead before now name bytes → at ≡ length bytes
     → ForSome now.files (λ files. ReadsAt (content files name) at n buffer)
     → piece ≡ take n buffer
-    → after.files ≡ now.files → after.read_faults name ≡ now.read_faults name → after.write_faults ≡ now.write_faults
+    → after.files ≡ now.files → after.read_faults ≡ now.read_faults → after.write_faults ≡ now.write_faults
     → HasRead before after name (bytes ++ piece)
 HasRead-more before now after name bytes buffer piece at n read place reads is files read_faults write_faults = record {
   front = λ f told.

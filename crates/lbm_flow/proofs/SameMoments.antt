@@ -5,7 +5,7 @@ use Rattle.std.specs.Prelude.{◌*ℤ◌}
 use Rattle.lbm_space.proofs.Sums.{sum_below-same}
 use Rattle.lbm_cell.specs.Moments.{density, momentum_part}
 use Rattle.lbm_cell.specs.declared.populations.Moment.{Moment}
-use Rattle.lbm_flow.specs.Run.{moment_of}
+use Rattle.lbm_flow.specs.Reports.{moment_of}
 
 momentum_part-same : (v : Stencil) (f g : ℕ → ℤ) (a : ℕ) → ((i : ℕ) → i < v.directions → f i ≡ g i) → momentum_part v f a ≡ momentum_part v g a
 momentum_part-same v f g a same =

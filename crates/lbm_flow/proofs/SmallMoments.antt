@@ -6,7 +6,7 @@ use Rattle.lbm_space.specs.Sum.{sum_below}
 use Rattle.lbm_space.specs.Stencil.{Stencil, IsVelocitySet, part, velocity}
 use Rattle.lbm_cell.specs.Moments.{momentum_part}
 use Rattle.lbm_cell.proofs.Sizes.{unsigned_abs-add, product_size, size_of_32}
-use Rattle.lbm_flow.specs.Run.{IsSmallMoment, moment_of}
+use Rattle.lbm_flow.specs.Reports.{IsSmallMoment, moment_of}
 
 sum_below-small : (n b : ℕ) (g : ℕ → ℤ) → ((k : ℕ) → k < n → unsigned_abs (g k) ≤ b) → unsigned_abs (sum_below n g) ≤ b * n
 sum_below-small zero b g small = omega arith

@@ -1,63 +1,141 @@
 -- What a call may answer, and what it leaves outside. First it decides, from the words and the store; then it tells the sink.
-use Rattle.std.specs.Prelude.{◌≡◌, ◌⊎◌, List, ℕ, Option, Result, Ok, Err, IsOkAnd, MatchResult, pos, ◌+ℤ◌, ◌*ℤ◌}
+use Rattle.std.specs.Prelude.{◌≡◌, ◌⊎◌, ◌-◌, List, ℕ, Option, Some, None, Result, Ok, Err, IsOk, IsOkAnd, MatchResult, pos, ◌+ℤ◌, ◌*ℤ◌}
 use Rattle.std.specs.Option.{ForSome}
 use Rattle.lbm_store.specs.Outside.{Files, StoreState, SinkState, Rose, GotFront, content, followed}
-use Rattle.lbm_case.specs.CaseOf.{case_of}
 use Rattle.lbm_model.specs.State.{mass}
-use Rattle.lbm_model.specs.Case.{all_gain}
+use Rattle.lbm_model.specs.Case.{FlowCase, all_gain}
 use Rattle.lbm_model.specs.Flow.{first}
+use Rattle.lbm_case.specs.CaseOf.{case_of}
+use Rattle.lbm_words.specs.Request.{Request, run, check, demo}
+use Rattle.lbm_words.specs.Words.{request_of}
 use Rattle.lbm_flow.specs.declared.answer.File.{File}
-use Rattle.lbm_flow.specs.declared.answer.File.TheVariants.{CaseFile, Out}
+use Rattle.lbm_flow.specs.declared.answer.File.TheVariants.{CaseFile, Checkpoint, Out, Save}
 use Rattle.lbm_flow.specs.declared.answer.End.{End}
-use Rattle.lbm_flow.specs.declared.answer.End.TheVariants.{Done, Usage, Case, TooLong, Range, StoreFault, SinkFault, Memory}
-use Rattle.lbm_flow.specs.declared.answer.Report.{Report}
-use Rattle.lbm_flow.specs.Words.{Request, request_of}
+use Rattle.lbm_flow.specs.declared.answer.End.TheVariants.{Done, Usage, Case, TooLong, Cut, Checkpoint as BadCheckpoint, Past, Range, StoreFault, SinkFault, Memory}
+use Rattle.lbm_flow.specs.declared.report.Report.{Report}
 use Rattle.lbm_flow.specs.Lines.{line_of, report_line}
-use Rattle.lbm_flow.specs.Outcome.{OfFiles, outcome, written, CutShort}
+use Rattle.lbm_flow.specs.Outcome.{Job, Beginning, Finished, OfFiles, CutAt, CutShort, ◌>>=◌, admitted, begun, case_bytes, demo_job, job_outcome, outcome, run_job, written}
+use Rattle.lbm_flow.specs.Reports.{mass_of}
 
 -- a report, or the answer in its place
 abbrev pub Decision : Type 0
 Decision = Result Report End
 
+-- ---- what a call is asked, as far as its answer goes: its outcome over files, its case where nothing that comes before the
+-- checkpoint is refused, the mass that it has to report, and the names of its files
+pub record Asked : Type 1 where
+  pub outcome : Files → Result Finished End
+  pub admitted : Files → Result FlowCase End
+  pub keeps : Files → Report → Type 0
+  pub name : File → Option (List ℕ)
+
+-- a count of faults rose, of a name that is given
+abbrev pub NamedRose : (before after : List ℕ → ℕ) → Option (List ℕ) → Type 0
+NamedRose before after (Some name) = Rose (before name) (after name)
+NamedRose before after None = ⊥
+
 -- the count of faults that concerns this file rose
-abbrev pub FaultRose : Request → File → StoreState → StoreState → Type 0
-FaultRose request CaseFile before after = Rose (before.read_faults request.case) (after.read_faults request.case)
-FaultRose request Out before after = Rose (before.write_faults request.out) (after.write_faults request.out)
+abbrev pub FaultRose : (File → Option (List ℕ)) → File → StoreState → StoreState → Type 0
+FaultRose name CaseFile before after = NamedRose before.read_faults after.read_faults (name CaseFile)
+FaultRose name Checkpoint before after = NamedRose before.read_faults after.read_faults (name Checkpoint)
+FaultRose name Out before after = NamedRose before.write_faults after.write_faults (name Out)
+FaultRose name Save before after = NamedRose before.write_faults after.write_faults (name Save)
 
 -- a refusal: exactly that of the outcome, and no file has changed
-abbrev pub Refuses : Request → StoreState → StoreState → End → Type 0
-Refuses request before after refused = (after.files ≡ before.files) × ForSome before.files (λ files. outcome request files ≡ Err refused)
+abbrev pub Refuses : Asked → StoreState → StoreState → End → Type 0
+Refuses asked before after refused = (after.files ≡ before.files) × ForSome before.files (λ files. asked.outcome files ≡ Err refused)
 
--- the mass that is reported is that of the first state, and what the walls give in each step
-abbrev pub KeepsMass : Request → Files → Report → Type 0
-KeepsMass request files report =
-    IsOkAnd (case_of (content files request.case)) (λ case. report.mass ≡ mass (first case) +ℤ (pos request.steps *ℤ all_gain case))
+-- the writing of the files stopped at file number k
+abbrev pub StopsAt : ℕ → Asked → StoreState → StoreState → Type 0
+StopsAt k asked before after = OfFiles before after (λ files now. IsOkAnd (asked.outcome files) (λ left. CutAt k left.files files now))
 
--- What may be decided for a request, and what has become of the files.
-abbrev pub DecidesFor : Request → StoreState → StoreState → Decision → Type 0
--- the run is finished
-DecidesFor request before after (Ok report) =
-    OfFiles before after (λ files now. IsOkAnd (outcome request files) (λ run. (run.report ≡ report) × (now ≡ written run.files files)) × KeepsMass request files report)
+-- What may be decided, and what has become of the files.
+abbrev pub DecidesFor : Asked → StoreState → StoreState → Decision → Type 0
+-- nothing has stopped it
+DecidesFor asked before after (Ok report) =
+    OfFiles before after (λ files now. IsOkAnd (asked.outcome files) (λ left. (left.report ≡ report) × (now ≡ written left.files files)) × asked.keeps files report)
 -- want of memory: at any step
-DecidesFor request before after (Err Memory) =
-    OfFiles before after (λ files now. MatchResult (outcome request files) (λ run. CutShort run.files files now) (λ refused. now ≡ files))
--- a fault of the store, which it has counted in this call: before a file is written, or where nothing was refused
-DecidesFor request before after (Err (StoreFault CaseFile)) = FaultRose request CaseFile before after × (after.files ≡ before.files)
-DecidesFor request before after (Err (StoreFault Out)) =
-    FaultRose request Out before after
-    × OfFiles before after (λ files now. IsOkAnd (outcome request files) (λ run. CutShort run.files files now))
-DecidesFor request before after (Err (Case fault)) = Refuses request before after (Case fault)
-DecidesFor request before after (Err (TooLong file)) = Refuses request before after (TooLong file)
-DecidesFor request before after (Err (Range step cell)) = Refuses request before after (Range step cell)
+DecidesFor asked before after (Err Memory) =
+    OfFiles before after (λ files now. MatchResult (asked.outcome files) (λ left. CutShort left.files files now) (λ refused. now ≡ files))
+-- a fault of the store, which it has counted in this call, where nothing was refused before
+DecidesFor asked before after (Err (StoreFault CaseFile)) = FaultRose asked.name CaseFile before after × (after.files ≡ before.files)
+DecidesFor asked before after (Err (StoreFault Checkpoint)) =
+    FaultRose asked.name Checkpoint before after × (after.files ≡ before.files) × ForSome before.files (λ files. IsOk (asked.admitted files))
+DecidesFor asked before after (Err (StoreFault Out)) = FaultRose asked.name Out before after × StopsAt 0 asked before after
+DecidesFor asked before after (Err (StoreFault Save)) = FaultRose asked.name Save before after × StopsAt 1 asked before after
+DecidesFor asked before after (Err (Case fault)) = Refuses asked before after (Case fault)
+DecidesFor asked before after (Err (TooLong file)) = Refuses asked before after (TooLong file)
+DecidesFor asked before after (Err (Cut k)) = Refuses asked before after (Cut k)
+DecidesFor asked before after (Err (BadCheckpoint fault)) = Refuses asked before after (BadCheckpoint fault)
+DecidesFor asked before after (Err (Past at to)) = Refuses asked before after (Past at to)
+DecidesFor asked before after (Err (Range step cell)) = Refuses asked before after (Range step cell)
 -- never, where the words ask for something
-DecidesFor request before after (Err Usage) = ⊥
-DecidesFor request before after (Err Done) = ⊥
-DecidesFor request before after (Err SinkFault) = ⊥
+DecidesFor asked before after (Err Usage) = ⊥
+DecidesFor asked before after (Err Done) = ⊥
+DecidesFor asked before after (Err SinkFault) = ⊥
+
+-- ---- a run
+
+-- the case of a run and where it begins
+abbrev pub beginning_of : Job → Files → Result (FlowCase × Beginning) End
+beginning_of job files = do
+  case ← admitted job
+  begin ← begun job files case
+  Ok (case, begin)
+
+-- the mass that a run reports is that of the state with which it begins, and what the walls give in each step
+abbrev pub KeepsMass : Job → Files → Report → Type 0
+KeepsMass job files report = IsOkAnd (beginning_of job files) (λ b. mass_of report ≡ mass b.1.state +ℤ (pos (job.steps - b.1.time) *ℤ all_gain b.0))
+
+abbrev pub job_name : Job → File → Option (List ℕ)
+job_name job CaseFile = None
+job_name job Checkpoint = job.resume
+job_name job Out = Some job.out
+job_name job Save = job.save
+
+-- what a run is asked
+abbrev pub asked_of_job : Job → Asked
+asked_of_job job = record { outcome = job_outcome job; admitted = λ files. admitted job; keeps = KeepsMass job; name = job_name job }
+
+-- ---- a request
+
+-- the run that a request asks for, over the bytes of its case; a check asks for none
+abbrev pub job_of : Request → Files → Result Job End
+job_of (run r) files = do
+  bytes ← case_bytes r.case files
+  Ok (run_job r bytes)
+job_of (check c) files = Err Usage
+job_of (demo d) files = Ok (demo_job d)
+
+abbrev pub admitted_of : Request → Files → Result FlowCase End
+admitted_of request files = do
+  job ← job_of request files
+  admitted job
+
+-- the mass that a check reports is that of the first state
+abbrev pub keeps_of : Request → Files → Report → Type 0
+keeps_of (check c) files report = IsOkAnd (case_of (content files c.case)) (λ case. mass_of report ≡ mass (first case))
+keeps_of request files report = IsOkAnd (job_of request files) (λ job. KeepsMass job files report)
+
+abbrev pub name_of : Request → File → Option (List ℕ)
+name_of (run r) CaseFile = Some r.case
+name_of (run r) Checkpoint = r.resume
+name_of (run r) Out = Some r.out
+name_of (run r) Save = r.save
+name_of (check c) CaseFile = Some c.case
+name_of (check c) file = None
+name_of (demo d) Out = Some d.out
+name_of (demo d) Save = d.save
+name_of (demo d) file = None
+
+-- what words ask
+abbrev pub asked_of : Request → Asked
+asked_of request = record { outcome = outcome request; admitted = admitted_of request; keeps = keeps_of request; name = name_of request }
 
 -- Words that ask for nothing are refused, unless memory ran out.
-abbrev pub Decides : Result Request End → StoreState → StoreState → Decision → Type 0
-Decides (Ok request) before after decision = DecidesFor request before after decision
-Decides (Err refused) before after decision = (after.files ≡ before.files) × ((decision ≡ Err refused) ⊎ (decision ≡ Err Memory))
+abbrev pub Decides : Option Request → StoreState → StoreState → Decision → Type 0
+Decides (Some request) before after decision = DecidesFor (asked_of request) before after decision
+Decides None before after decision = (after.files ≡ before.files) × ((decision ≡ Err Usage) ⊎ (decision ≡ Err Memory))
 
 -- The sink gets a line. `whole` is the answer where it got all of it, `cut` where the sink failed and has counted that.
 -- Want of memory tries its own line behind what was written.

@@ -1,12 +1,12 @@
-pub mod Words
+pub mod Gen
 pub mod Causes
-pub mod Running
-pub mod Plain
 pub mod Lattices
-pub mod Run
+pub mod Running
+pub mod Reports
 pub mod Outcome
 pub mod Lines
 pub mod Answer
 pub mod Complete
 pub mod Files
-pub mod Finishing
+pub mod Jobs
+pub mod Laws

@@ -1,8 +1,7 @@
 // The cases of examples/, each run for one step. The masses and momenta were worked out by hand: a wall cell holds what its
 // fluid neighbours send it, a force adds 12 units to each fluid cell, and a moving wall gives its gain on each link.
 use crate::End;
-use crate::tests::{answer, store_with};
-use std::alloc::{AllocError, Global};
+use crate::tests::{compare, store_with, text_of};
 use std::marker::Sync;
 use std::process::Abort;
 use std::test::Fail;
@@ -23,26 +22,6 @@ const LAYER_BETWEEN: [(u32, &str); 4] = [
     (2, "..##..##"),
 ];
 
-fn push_row(text: &mut String, count: u32, row: &str) -> Result<(), AllocError> {
-    for _ in 0..count {
-        text.push('"')?;
-        text.push_str(row)?;
-        text.push_str("\",\n")?;
-    }
-    Ok(())
-}
-
-// A case file: what stands before the map, and the rows of the map.
-fn text_of(alloc: Global, head: &str, rows: &[(u32, &str)]) -> Result<String, AllocError> {
-    let mut text = String::from_str(alloc, head)?;
-    text.push_str("map = [\n")?;
-    for (count, row) in rows {
-        push_row(&mut text, *count, row)?;
-    }
-    text.push_str("]\n")?;
-    Ok(text)
-}
-
 // Runs an example for a step, and compares the line that is told.
 fn runs<R: Threads + Sync + AllocGlobal + Abort>(
     rt: &R,
@@ -53,10 +32,7 @@ fn runs<R: Threads + Sync + AllocGlobal + Abort>(
     let alloc = rt.alloc();
     let case = text_of(alloc, head, rows)?;
     let mut store = store_with(alloc, &case, Vec::new(alloc))?;
-    let (end, sink) = answer(rt, &mut store, &["run", "c", "1", "o"])?;
-    assert_eq!(rt; sink.bytes(), line.as_bytes(), "with {case}");
-    assert_eq!(rt; end, End::Done);
-    Ok(())
+    compare(rt, &mut store, "run c 1 o", &End::Done, line)
 }
 
 #[test]

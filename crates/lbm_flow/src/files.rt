@@ -1,17 +1,9 @@
-// Files that are read or written whole.
-ghost use Rattle.std.specs.Prelude.{◌≡◌, length};
-ghost use Rattle.lbm_space.specs.Torus.{cells};
-ghost use Rattle.lbm_store.specs.Sinks.{WritesFile};
-ghost use Rattle.lbm_vtk.specs.Vtk.{vtk};
-ghost use Rattle.lbm_flow.specs.Files.{ReadsFile, ReadsCaseFile, SavesOut};
+// Files that are read whole.
+ghost use Rattle.std.specs.Prelude.{◌≡◌, ◌≤◌, length, IsOk, IfOk};
+ghost use Rattle.lbm_flow.specs.Files.{ReadsFile, ReadsCaseFile};
 
 use crate::{End, File};
-use lbm_case::read_case;
-use lbm_cell::Moment;
-use lbm_model::Case;
-use lbm_space::Space;
-use lbm_store::{IoEnd, Named, Store};
-use lbm_vtk::write_vtk;
+use lbm_store::{IoEnd, Store};
 use std::alloc::Global;
 
 /// The greatest length of a case file, in bytes.
@@ -37,6 +29,7 @@ pub(crate) fn read_file<T: Store>(
     ensures read { ReadsFile (T.state store.old) (T.state store.new) name.now limit result }
     ensures files { (T.state store.new).files ≡ (T.state store.old).files }
     ensures write_faults { (T.state store.new).write_faults ≡ (T.state store.old).write_faults }
+    ensures read_faults { IsOk result → (T.state store.new).read_faults ≡ (T.state store.old).read_faults }
 {
     let mut bytes = Vec::new(alloc);
     let mut buffer = [0u8; BUFFER];
@@ -55,50 +48,18 @@ pub(crate) fn read_file<T: Store>(
     Err(ReadEnd::TooLong)
 }
 
-/// The case that the file spells.
-pub(crate) fn case_of_file<T: Store>(alloc: Global, store: &mut T, name: &str) -> Result<Case, End>
+/// The bytes of a case file.
+pub(crate) fn case_bytes<T: Store>(alloc: Global, store: &mut T, name: &str) -> Result<Vec<u8>, End>
     ensures read { ReadsCaseFile (T.state store.old) (T.state store.new) name.now result }
+    ensures short { IfOk result (λ bytes. length bytes.items ≤ 33554432) }
     ensures files { (T.state store.new).files ≡ (T.state store.old).files }
     ensures write_faults { (T.state store.new).write_faults ≡ (T.state store.old).write_faults }
+    ensures read_faults { IsOk result → (T.state store.new).read_faults ≡ (T.state store.old).read_faults }
 {
     match read_file(alloc, store, name, CASE_LIMIT) {
-        Ok(bytes) => Ok(read_case(alloc, &bytes)?),
+        Ok(bytes) => Ok(bytes),
         Err(ReadEnd::TooLong) => Err(End::TooLong(File::CaseFile)),
         Err(ReadEnd::Failed) => Err(End::StoreFault(File::CaseFile)),
         Err(ReadEnd::Memory) => Err(End::Memory),
     }
-}
-
-/// Writes the VTK file of these moments under the name.
-pub(crate) fn save_out<T: Store>(
-    store: &mut T,
-    name: &str,
-    space: &Space,
-    step: u64,
-    moments: &[Moment],
-) -> Result<(), End>
-    requires { length moments.now ≡ cells space.now }
-    ensures saved { SavesOut (T.state store.old) (T.state store.new) (record { name = name.now; bytes = vtk space.now step moments.now }) result }
-    ensures read_faults { (T.state store.new).read_faults ≡ (T.state store.old).read_faults }
-{
-    match write_out(store, name, space, step, moments) {
-        Ok(()) => Ok(()),
-        Err(IoEnd::Failed) => Err(End::StoreFault(File::Out)),
-        Err(IoEnd::Memory) => Err(End::Memory),
-    }
-}
-
-fn write_out<T: Store>(
-    store: &mut T,
-    name: &str,
-    space: &Space,
-    step: u64,
-    moments: &[Moment],
-) -> Result<(), IoEnd>
-    requires { length moments.now ≡ cells space.now }
-    ensures { WritesFile (T.state store.old) (T.state store.new) result name.now (vtk space.now step moments.now) }
-{
-    store.create(name)?;
-    let mut file = Named::new(store, name);
-    write_vtk(&mut file, space, step, moments)
 }

@@ -5,7 +5,7 @@ ghost use Rattle.lbm_space.specs.Torus.{cells};
 ghost use Rattle.lbm_cell.specs.Moments.{populations};
 ghost use Rattle.lbm_model.specs.State.{mass, population, flow_state};
 ghost use Rattle.lbm_model.specs.Flow.{IsStateOf};
-ghost use Rattle.lbm_flow.specs.Run.{printed_moment, printed_moments, IsSmallMoment};
+ghost use Rattle.lbm_flow.specs.Reports.{printed_moment, printed_moments, IsSmallMoment};
 
 use lbm_cell::{Moment, Pops, moment};
 use lbm_model::{Case, SetKind, State};

@@ -1,60 +1,38 @@
-// The sums that the line of a finished run tells.
-ghost use Rattle.std.specs.Prelude.{◌≡◌, ◌≤◌, ◌∷◌, [], pos, ◌+ℤ◌, fold, length, All};
-ghost use Rattle.lbm_model.specs.State.{mass};
-ghost use Rattle.lbm_flow.specs.Run.{IsSmallMoment, moment_part, total};
+// What a call reports.
 
-use lbm_cell::Moment;
-use lbm_model::State;
-
-/// The mass of a state: the sum of all populations of all cells, walls included, in lattice units.
-pub fn mass(state: &State) -> i64
-    ensures { result ≡ mass state.now }
-{
-    sum_of(state.pops())
+/// What is told of a run.
+#[derive(Clone, Copy, Debug, PartialEq, Eq)]
+pub struct RunReport {
+    /// The step of the last state.
+    pub step: u64,
+    /// The sum of all populations of all cells, walls included.
+    pub mass: i64,
+    /// The three sums of the printed momenta of all cells.
+    pub momentum: [i64; 3],
 }
 
-fn sum_of(pops: &[i32]) -> i64
-    requires { length pops.now ≤ 113246208 }
-    ensures { result ≡ fold (λ a b. a +ℤ b) (pos 0) pops.now }
-{
-    let mut sum = 0;
-    for population in pops {
-        sum += i64::from(*population);
-    }
-    sum
+/// What is told of a case.
+#[derive(Clone, Copy, Debug, PartialEq, Eq)]
+pub struct CheckReport {
+    /// The dimension of the velocity set.
+    pub dimension: u32,
+    /// How many directions it has.
+    pub directions: u32,
+    /// The sides of the box of cells.
+    pub sides: [u32; 3],
+    /// How many cells are fluid.
+    pub fluid: u32,
+    /// How many cells are solid.
+    pub solid: u32,
+    /// The sum of all populations of the first state, walls included.
+    pub mass: i64,
 }
 
-/// The sums of the three parts of the momenta.
-pub(crate) fn total_momentum(moments: &[Moment]) -> [i64; 3]
-    requires few { length moments.now ≤ 4194304 }
-    requires small { All IsSmallMoment moments.now }
-    ensures { result ≡ total (λ m. m.jx) moments.now ∷ total (λ m. m.jy) moments.now ∷ total (λ m. m.jz) moments.now ∷ [] }
-{
-    [
-        total_part(moments, 0),
-        total_part(moments, 1),
-        total_part(moments, 2),
-    ]
-}
-
-fn total_part(moments: &[Moment], axis: usize) -> i64
-    requires few { length moments.now ≤ 4194304 }
-    requires small { All IsSmallMoment moments.now }
-    ensures { result ≡ total (λ m. moment_part m axis) moments.now }
-{
-    let mut sum = 0;
-    for moment in moments {
-        sum += part(moment, axis);
-    }
-    sum
-}
-
-fn part(moment: &Moment, axis: usize) -> i64
-    ensures { result ≡ moment_part moment.now axis }
-{
-    match axis {
-        0 => moment.jx,
-        1 => moment.jy,
-        _ => moment.jz,
-    }
+/// What the line of a call that nothing has stopped tells.
+#[derive(Clone, Copy, Debug, PartialEq, Eq)]
+pub enum Report {
+    /// Of a run, and of one of a generated case.
+    Run(RunReport),
+    /// Of a check.
+    Check(CheckReport),
 }

@@ -1,8 +1,12 @@
-// A run of a pattern.
-ghost use Rattle.std.specs.Prelude.{◌≡◌, ◌≤◌, IsNone};
+// A run of a lattice.
+ghost use Rattle.std.specs.Prelude.{◌≡◌, ◌≤◌, IsNone, false};
+ghost use Rattle.lbm_flow.specs.Lattices.{standing_of};
 ghost use Rattle.lbm_flow.specs.Running.{RunGives, ended};
 
+use crate::Lattice;
 use lbm_model::{Gate, Pattern, StepEnd};
+use lbm_space::VelocitySet;
+use std::alloc::Allocator;
 use std::marker::Sync;
 use std::thread::Threads;
 
@@ -27,28 +31,29 @@ impl RunEnd {
     }
 }
 
-/// Steps a pattern until its time is `steps`, which is at most 1,000,000, and tests the state that it then stands for.
+/// Steps a lattice until its time is `steps`, which is at most 1,000,000, and tests the state that it then stands for. The
+/// lattice is not spent, and its time is at most `steps`. The gate is entered once before each piece of a step.
 ///
 /// `Range` names the least step, and in it the least cell, that is out of limits. Where that step is below `steps`, the
-/// pattern is spent; otherwise it stands for the state that is out of limits. `Memory` comes only where the pattern's
-/// steps want memory, and it then stands for what the steps made so far have given.
-pub fn run_pattern<G: Gate, P: Pattern<G>, R: Threads + Sync>(
+/// lattice is spent; otherwise it stands for the state that is out of limits. `Memory` comes only from a pattern whose
+/// steps want memory, so from none of these.
+pub fn run_pattern<V: VelocitySet + Sync, A: Allocator, R: Threads + Sync, G: Gate>(
     rt: &R,
-    pattern: &mut P,
+    lattice: &mut Lattice<V, A>,
     steps: u64,
     gate: &G,
 ) -> Result<(), RunEnd>
-    requires unspent { IsNone (P.standing pattern.old).spent }
-    requires ahead { (P.standing pattern.old).time ≤ steps }
+    requires unspent { IsNone (standing_of lattice.old).spent }
+    requires ahead { (standing_of lattice.old).time ≤ steps }
     requires few { steps ≤ 1000000 }
-    ensures { RunGives P.WANTS_MEMORY (P.standing pattern.old) (P.standing pattern.new) steps result }
+    ensures { RunGives false (standing_of lattice.old) (standing_of lattice.new) steps result }
 {
-    for step in pattern.time()..steps {
-        if let Err(end) = pattern.step(rt, gate) {
+    for step in lattice.time()..steps {
+        if let Err(end) = lattice.step(rt, gate) {
             return Err(RunEnd::at(step, end));
         }
     }
-    match pattern.check() {
+    match lattice.check() {
         Some(cell) => Err(RunEnd::Range { step: steps, cell }),
         None => Ok(()),
     }

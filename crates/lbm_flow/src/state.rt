@@ -2,12 +2,12 @@
 ghost use Rattle.std.specs.Prelude.{◌≡◌, IsNone, IfOk};
 ghost use Rattle.lbm_model.specs.Sets.{stencil_of};
 
-use lbm_model::{Gate, Pattern, SetKind, State};
+use lbm_model::{Pattern, SetKind, State};
 use lbm_space::{D2Q9, D3Q19, Memory, VelocitySet};
 use std::alloc::Global;
 
 /// The state that a pattern stands for, which is not spent.
-pub fn state_of<G: Gate, P: Pattern<G>>(alloc: Global, pattern: &P) -> Result<State, Memory>
+pub fn state_of<P: Pattern>(alloc: Global, pattern: &P) -> Result<State, Memory>
     requires { IsNone (P.standing pattern.now).spent }
     ensures { IfOk result (λ state. state ≡ (P.standing pattern.now).state) }
 {
@@ -20,8 +20,8 @@ pub fn state_of<G: Gate, P: Pattern<G>>(alloc: Global, pattern: &P) -> Result<St
     Ok(State::new(q, pops))
 }
 
-// How many directions the velocity set has.
-fn directions(set: SetKind) -> u32
+/// How many directions the velocity set has.
+pub(crate) fn directions(set: SetKind) -> u32
     ensures { result ≡ (stencil_of set).directions }
 {
     match set {

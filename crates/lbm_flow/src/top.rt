@@ -1,119 +1,174 @@
 // The top call.
-ghost use Rattle.std.specs.Prelude.{◌≡◌, ◌≤◌, map, string_bytes, IsNone, IfOk};
-ghost use Rattle.lbm_flow.specs.Words.{request_of};
-ghost use Rattle.lbm_flow.specs.Answer.{Answers, Decides};
+ghost use Rattle.std.specs.Prelude.{◌≡◌, ◌≤◌, map, string_bytes, IfOk};
+ghost use Rattle.lbm_words.specs.Request.{IsRun, IsDemo, run, check, demo, run_view, check_view, demo_view};
+ghost use Rattle.lbm_words.specs.Words.{request_of};
+ghost use Rattle.lbm_flow.specs.Answer.{Answers, Decides, DecidesFor, asked_of};
 ghost use Rattle.lbm_flow.specs.Complete.{IsComplete};
-ghost use Rattle.lbm_flow.specs.Finishing.{Finishes, Concludes};
+ghost use Rattle.lbm_flow.specs.Reports.{check_report, solid_below};
+ghost use Rattle.lbm_space.specs.Torus.{cells};
+ghost use Rattle.lbm_flow.specs.declared.report.Report.TheVariants as Report;
 
-use crate::files::{case_of_file, save_out};
-use crate::measures::moments;
-use crate::plain::Plain;
-use crate::report::{mass, total_momentum};
-use crate::run::run_pattern;
-use crate::state::state_of;
+use crate::begin::first_of;
+use crate::files::case_bytes;
+use crate::job::{Job, do_job};
+use crate::state::directions;
+use crate::sums::mass;
 use crate::tell::tell;
-use crate::{End, Report, words};
-use lbm_cell::Moment;
-use lbm_model::{Case, Gate, Pattern, SetKind, first_state};
-use lbm_space::{D2Q9, D3Q19, Memory, VelocitySet};
+use crate::{CheckReport, End, Report, gen_case};
+use lbm_case::read_case;
+use lbm_model::{Case, Gate};
+use lbm_space::Memory;
 use lbm_store::{Sink, Store};
+use lbm_words::{Check, Demo, Request, Run, request_of};
 use std::alloc::{Allocator, Global};
 use std::marker::Sync;
 use std::thread::Threads;
 
 /// Does what the words after the program's name ask for, and answers: `run CASE STEPS OUT` runs the case of a file over
-/// so many steps, writes densities and momenta as a legacy VTK file, and tells the sink a line.
+/// so many steps, writes densities and momenta as a legacy VTK file, and tells the sink a line; `check CASE` tells one of
+/// the case; `demo N STEPS OUT` runs a generated case. The lattice's memory is that of `heap`. The gate is entered once
+/// before each piece of a step.
 ///
 /// The contract says which answer comes, what it leaves in the store, and what the sink has got. It speaks of the plain
-/// two-lattice definition alone.
+/// two-lattice definition alone, whatever pattern, workers and cutting the words ask for.
 pub fn run_words<T: Store, K: Sink, A: Allocator + Copy, G: Gate, R: Threads + Sync>(
     rt: &R,
     alloc: Global,
-    _heap: A,
+    heap: A,
     words: &[String],
     store: &mut T,
     out: &mut K,
     gate: &G,
 ) -> End
     // The answer is that of the plain definition over the files, or a fault that was counted, or want of memory. The mass of
-    // a finished run is the first mass, and what the walls give in each step.
+    // a finished run is the mass that it began with, and what the walls give in each step.
     ensures answer { Answers (map string_bytes words.now) (T.state store.old) (T.state store.new) (K.state out.old) (K.state out.new) result }
     // Where no fault was counted, it is that of the definition or want of memory.
     ensures complete { IsComplete (map string_bytes words.now) (T.state store.old) (T.state store.new) (K.state out.old) (K.state out.new) result }
     ensures rest { (K.state out.new).rest ≡ (K.state out.old).rest }
 {
-    let decision = decide(rt, alloc, words, store, gate);
+    let decision = decide(rt, alloc, heap, words, store, gate);
     tell(out, decision)
 }
 
 // Does what the words ask for, up to the line that is told. It touches the store alone.
-fn decide<T: Store, G: Gate, R: Threads + Sync>(
+fn decide<T: Store, A: Allocator + Copy, G: Gate, R: Threads + Sync>(
     rt: &R,
     alloc: Global,
+    heap: A,
     words: &[String],
     store: &mut T,
     gate: &G,
 ) -> Result<Report, End>
     ensures { Decides (request_of (map string_bytes words.now)) (T.state store.old) (T.state store.new) result }
 {
-    let request = words::request_of(words)?;
-    let case = case_of_file(alloc, store, request.case)?;
-    let space = *case.space();
-    let (moments, report) = finish(rt, alloc, case, request.steps, gate)?;
-    save_out(store, request.out, &space, report.step, &moments)?;
-    Ok(report)
-}
-
-// The moments and the report of the state that a run reaches.
-fn finish<G: Gate, R: Threads + Sync>(
-    rt: &R,
-    alloc: Global,
-    case: Case,
-    steps: u32,
-    gate: &G,
-) -> Result<(Vec<Moment>, Report), End>
-    requires { steps ≤ 1000000 }
-    ensures { Finishes case steps result }
-{
-    match case.set() {
-        SetKind::D2Q9 => finish_by::<D2Q9, G, R>(rt, alloc, case, steps, gate),
-        SetKind::D3Q19 => finish_by::<D3Q19, G, R>(rt, alloc, case, steps, gate),
+    match request_of(alloc, words)? {
+        Request::Run(run) => decide_run(rt, alloc, heap, run, store, gate),
+        Request::Check(check) => decide_check(alloc, check, store),
+        Request::Demo(demo) => decide_demo(rt, alloc, heap, demo, store, gate),
     }
 }
 
-fn finish_by<V: VelocitySet, G: Gate, R: Threads + Sync>(
+fn decide_run<T: Store, A: Allocator + Copy, G: Gate, R: Threads + Sync>(
     rt: &R,
     alloc: Global,
-    case: Case,
-    steps: u32,
+    heap: A,
+    request: Run<'_>,
+    store: &mut T,
     gate: &G,
-) -> Result<(Vec<Moment>, Report), End>
-    requires set { case.stencil ≡ V.stencil }
-    requires few { steps ≤ 1000000 }
-    ensures { Finishes case steps result }
+) -> Result<Report, End>
+    requires { IsRun (run_view request) }
+    ensures { DecidesFor (asked_of (run (run_view request.entry))) (T.state store.old) (T.state store.new) result }
 {
-    let first = first_state::<V>(alloc, &case)?;
-    let mut plain = Plain::<V>::start(alloc, case, &first, 0)?;
-    drop(first);
-    run_pattern::<G, Plain<V>, R>(rt, &mut plain, u64::from(steps), gate)?;
-    Ok(conclude::<G, Plain<V>, R>(rt, alloc, &plain)?)
+    let Run {
+        case,
+        steps,
+        out,
+        choice,
+        resume,
+        save,
+        format,
+    } = request;
+    let bytes = case_bytes(alloc, store, case)?;
+    let job = Job {
+        bytes: &bytes,
+        steps,
+        out,
+        choice,
+        resume,
+        save,
+        format,
+    };
+    do_job(rt, alloc, heap, &job, store, gate)
 }
 
-// The moments and the report of the state that a pattern stands for.
-fn conclude<G: Gate, P: Pattern<G>, R: Threads + Sync>(
+fn decide_demo<T: Store, A: Allocator + Copy, G: Gate, R: Threads + Sync>(
     rt: &R,
     alloc: Global,
-    pattern: &P,
-) -> Result<(Vec<Moment>, Report), Memory>
-    requires { IsNone (P.standing pattern.now).spent }
-    ensures { IfOk result (λ done. Concludes (P.standing pattern.now) done.0.items done.1) }
+    heap: A,
+    request: Demo<'_>,
+    store: &mut T,
+    gate: &G,
+) -> Result<Report, End>
+    requires { IsDemo (demo_view request) }
+    ensures { DecidesFor (asked_of (demo (demo_view request.entry))) (T.state store.old) (T.state store.new) result }
 {
-    let state = state_of::<G, P>(alloc, pattern)?;
-    let moments = moments(rt, alloc, pattern.case(), &state)?;
-    let report = Report {
-        step: pattern.time(),
-        mass: mass(&state),
-        momentum: total_momentum(&moments),
+    let Demo {
+        n,
+        steps,
+        out,
+        choice,
+        save,
+        format,
+    } = request;
+    let bytes = gen_case(alloc, n)?;
+    let job = Job {
+        bytes: &bytes,
+        steps,
+        out,
+        choice,
+        resume: None,
+        save,
+        format,
     };
-    Ok((moments, report))
+    do_job(rt, alloc, heap, &job, store, gate)
+}
+
+fn decide_check<T: Store>(alloc: Global, request: Check<'_>, store: &mut T) -> Result<Report, End>
+    ensures { DecidesFor (asked_of (check (check_view request.entry))) (T.state store.old) (T.state store.new) result }
+{
+    let bytes = case_bytes(alloc, store, request.case)?;
+    let case = read_case(alloc, &bytes)?;
+    Ok(Report::Check(report_of(alloc, &case)?))
+}
+
+// What a check tells of a case.
+fn report_of(alloc: Global, case: &Case) -> Result<CheckReport, Memory>
+    ensures { IfOk result (λ report. Report.Check report ≡ check_report case.now) }
+{
+    let first = first_of(alloc, case)?;
+    let solid = solid_cells(case);
+    let space = case.space();
+    Ok(CheckReport {
+        dimension: space.dim() as u32,
+        directions: directions(case.set()),
+        sides: space.sides(),
+        fluid: space.cells() - solid,
+        solid,
+        mass: mass(&first),
+    })
+}
+
+// How many cells are solid.
+fn solid_cells(case: &Case) -> u32
+    ensures count { result ≡ solid_below case.now (cells case.now.torus) }
+    ensures few { result ≤ cells case.now.torus }
+{
+    let mut count = 0;
+    for cell in 0..case.space().cells() {
+        if case.is_solid(cell) {
+            count += 1;
+        }
+    }
+    count
 }

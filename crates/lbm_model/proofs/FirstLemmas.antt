@@ -29,7 +29,7 @@ list_below-split m (suc n) f =
     (ap (λ (k : ℕ). list_below k f) e ∙ last ∙ ap (λ (xs : List ℤ). xs ++ f (m + n) ∷ []) (list_below-split m n f)
     ∙ append_assoc (list_below m f) (list_below n (λ k. f (m + k))) (f (m + n) ∷ []) ∙ ap (λ (xs : List ℤ). list_below m f ++ xs) (sym inner))
 
-list_below-same : (n : ℕ) (f g : ℕ → ℤ) → ((k : ℕ) → k < n → f k ≡ g k) → list_below n f ≡ list_below n g
+pub list_below-same : (n : ℕ) (f g : ℕ → ℤ) → ((k : ℕ) → k < n → f k ≡ g k) → list_below n f ≡ list_below n g
 list_below-same zero f g same = refl
 list_below-same (suc n) f g same =
     let one : n + 1 ≡ suc n = omega arith in

@@ -8,4 +8,5 @@ pub mod Mass
 pub mod SmallStates
 pub mod Local
 pub mod FirstLemmas
+pub mod States
 pub mod Worked

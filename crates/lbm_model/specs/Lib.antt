@@ -1,6 +1,7 @@
 pub mod State
 pub mod Case
 pub mod Flow
+pub mod Layout
 pub mod Laws
 pub mod Small
 pub mod Standing

@@ -6,12 +6,9 @@ ghost use Rattle.lbm_space.specs.Torus.{cells};
 ghost use Rattle.lbm_model.specs.State.{population};
 ghost use Rattle.lbm_model.specs.Case.{IsCase};
 ghost use Rattle.lbm_model.specs.Flow.{IsStateOf, out_of_limits};
-ghost use Rattle.lbm_model.specs.Standing.{Standing, StepGives};
+ghost use Rattle.lbm_model.specs.Standing.{Standing};
 
 use crate::case::Case;
-use crate::gate::Gate;
-use std::marker::Sync;
-use std::thread::Threads;
 
 /// Why a step was not made.
 #[derive(Clone, Copy, Debug, PartialEq, Eq)]
@@ -22,10 +19,12 @@ pub enum StepEnd {
     Memory,
 }
 
-/// A lattice that stands for the state of a case at a time, and can be moved on by one step.
+/// A lattice that stands for the state of a case at a time. Each pattern has, beside this, a call `step` that moves it on
+/// by one step: `step(&mut self, rt: &R, gate: &G) -> Result<(), StepEnd>`, for a time below 1,000,000, any runtime `R`
+/// with threads and any gate `G`, whose clause is `StepGives`.
 ///
 /// A step that finds a cell out of limits spends the pattern: it stands for no state from then on.
-pub trait Pattern<G: Gate> {
+pub trait Pattern {
     /// Whether a step may want memory.
     const WANTS_MEMORY: bool;
 
@@ -48,12 +47,6 @@ pub trait Pattern<G: Gate> {
     /// The cell that spent the pattern, or `None` where it is not spent.
     fn spent(&self) -> Option<u32>
         ensures { result ≡ (standing self.now).spent };
-
-    /// Goes on to the next state where all cells are in limits, and else names the least cell that is not, or
-    /// the one that spent the pattern before.
-    fn step<R: Threads + Sync>(&mut self, rt: &R, gate: &G) -> Result<(), StepEnd>
-        requires { (standing self.old).time < 1000000 }
-        ensures { StepGives WANTS_MEMORY (standing self.old) (standing self.new) result };
 
     /// Population `dir` of the cell.
     fn get(&self, cell: u32, dir: u32) -> i64

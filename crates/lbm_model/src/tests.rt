@@ -4,7 +4,7 @@ ghost use Rattle.std.specs.Prelude.{◌≡◌, ◌≢◌, ◌<◌, ◌≤◌, If
 ghost use Rattle.lbm_space.specs.Torus.{cells};
 ghost use Rattle.lbm_model.specs.Case.{AreDensities};
 
-use crate::{Case, Gate, NoGate, SetKind, all_gain, first_state, gain, post, sound};
+use crate::{Case, Gate, Layout, NoGate, SetKind, all_gain, first_state, gain, post, sound};
 use lbm_cell::{Force, Rates, UNIT, first_pops};
 use lbm_space::{D2Q9, D3Q19, Space};
 use std::alloc::{AllocError, Global};
@@ -156,6 +156,40 @@ fn a_wall_that_slides_adds_no_mass(rt: HostRuntime) -> Result<(), Fail> {
     assert_eq!(rt; case.rates(), rates);
     assert_eq!(rt; (case.force(), case.wall()), (force, wall));
     assert_eq!(rt; case.momentum(), [7, 8, 0]);
+    Ok(())
+}
+
+#[test]
+fn layouts_put_a_population_at_its_cell_or_at_the_one_behind(rt: HostRuntime) -> Result<(), Fail> {
+    let Some(space) = Space::new(2, 3, 2, 1) else {
+        return Err("in range".into());
+    };
+    let rates = Rates::new(1, 1).ok_or("in range")?;
+    let still = Force::new(0, 0, 0).ok_or("in range")?;
+    let densities = densities(rt.alloc(), space, 884736, 0, 884736)?;
+    let case = Case::new(SetKind::D2Q9, space, densities, rates, still, [0, 0, 0]);
+    // What comes to cell (0, 0) along (1, 1), from cell (2, 1).
+    let two = Layout {
+        margin: 0,
+        base: 0,
+        turned: false,
+        behind: true,
+    };
+    assert_eq!(rt; two.slot::<D2Q9>(&case, 0, 5), (5, 13));
+    let even = Layout {
+        margin: 2,
+        base: 1,
+        turned: false,
+        behind: false,
+    };
+    assert_eq!(rt; even.slot::<D2Q9>(&case, 0, 5), (5, 7));
+    let odd = Layout {
+        margin: 2,
+        base: 1,
+        turned: true,
+        behind: true,
+    };
+    assert_eq!(rt; odd.slot::<D2Q9>(&case, 0, 5), (7, 14));
     Ok(())
 }
 

@@ -43,10 +43,8 @@ impl MapStore {
             ≡ record before { files = with before.files name.now (Some bytes.now) }) }
         ensures err { OnErr result (map_state self.new ≡ map_state self.old) }
     {
-        match self.files.put(name, bytes) {
-            Ok(()) => Ok(()),
-            Err(_) => Err(Memory),
-        }
+        self.files.put(name, bytes)?;
+        Ok(())
     }
 
     /// The bytes of a name, or `None` where it is not there.

@@ -31,10 +31,8 @@ impl SureStore {
             ≡ with (sure_files self.old) name.now (Some bytes.now)) }
         ensures err { OnErr result (sure_files self.new ≡ sure_files self.old) }
     {
-        match self.files.put(name, bytes) {
-            Ok(()) => Ok(()),
-            Err(_) => Err(Memory),
-        }
+        self.files.put(name, bytes)?;
+        Ok(())
     }
 
     /// The bytes of a name, or `None` where it is not there.

@@ -100,15 +100,20 @@ fn the_sure_ones_do_not_fail(rt: HostRuntime) -> Result<(), Fail> {
     let mut buf = [0u8; 4];
     assert_eq!(rt; store.read("a", 0, &mut buf), Ok(0), "not there");
     assert_eq!(rt; store.bytes("a"), None);
+    assert_eq!(rt; store.append("b", b"not there"), Ok(()));
+    assert_eq!(rt; store.bytes("b"), Some(b"not there".as_slice()));
     assert!(rt; store.put("a", b"hello").is_ok());
     assert_eq!(rt; store.append("a", b" you"), Ok(()));
     assert_eq!(rt; store.read("a", 6, &mut buf), Ok(3));
+    assert_eq!(rt; &buf[..3], b"you".as_slice());
+    assert_eq!(rt; store.read("a", 9, &mut buf), Ok(0), "at the end");
     assert_eq!(rt; store.bytes("a"), Some(b"hello you".as_slice()));
     assert_eq!(rt; store.create("a"), Ok(()));
     assert_eq!(rt; store.bytes("a"), Some(b"".as_slice()));
     let mut sink = SureSink::new(alloc);
-    assert_eq!(rt; sink.write(b"one"), Ok(()));
-    assert_eq!(rt; sink.bytes(), b"one".as_slice());
+    assert_eq!(rt; sink.write(b"one "), Ok(()));
+    assert_eq!(rt; sink.write(b"two"), Ok(()));
+    assert_eq!(rt; sink.bytes(), b"one two".as_slice());
     Ok(())
 }
 

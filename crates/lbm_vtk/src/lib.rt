@@ -1,12 +1,14 @@
 //! VTK files: the density and the momentum of each cell, for a viewer.
 #![tactic(auto)]
 
-ghost use Rattle.std.specs.Prelude.{◌≡◌, codes, length};
+ghost use Rattle.std.specs.Prelude.{◌≡◌, All, FitsSigned, length};
+ghost use Rattle.std.specs.Int.{w32};
 ghost use Rattle.std.specs.List.{flat_map};
 ghost use Rattle.lbm_space.specs.Torus.{cells as cell_count};
 ghost use Rattle.lbm_store.specs.Outside.{Writes};
 ghost use Rattle.lbm_store.specs.Pieces.{Puts};
-ghost use Rattle.lbm_vtk.specs.Vtk.{density_line, head, line, momentum_line, vtk};
+ghost use Rattle.lbm_vtk.specs.declared.Format.TheVariants.{Binary};
+ghost use Rattle.lbm_vtk.specs.Vtk.{FitsInts, density, four_bytes, head, line, momentum, name, numbers_end, row, table, vtk};
 
 use itoa::Buffer;
 use lbm_cell::Moment;
@@ -16,12 +18,46 @@ use lbm_store::{IoEnd, Pieces, Sink};
 #[cfg(test)]
 mod tests;
 
+/// How the numbers of a file are written.
+#[derive(Clone, Copy, Debug, PartialEq, Eq)]
+pub enum Format {
+    /// In decimal, in lines of text.
+    Ascii,
+    /// As four bytes each, the highest first.
+    Binary,
+}
+
+impl Format {
+    /// The form, as the file names it.
+    fn name(self) -> &'static [u8]
+        ensures { result.now ≡ name self }
+    {
+        match self {
+            Format::Ascii => b"ASCII",
+            Format::Binary => b"BINARY",
+        }
+    }
+
+    /// What follows the numbers of all cells.
+    fn numbers_end(self) -> &'static [u8]
+        ensures { result.now ≡ numbers_end self }
+    {
+        match self {
+            Format::Ascii => b"",
+            Format::Binary => b"\n",
+        }
+    }
+}
+
 /// Writes the density and the momentum of each cell, in lattice units, as a file in the legacy VTK
-/// format, version 3.0, with the dataset `STRUCTURED_POINTS`, in its ASCII form.
+/// format, version 3.0, with the dataset `STRUCTURED_POINTS`.
 ///
-/// The file has ten lines that tell the step, the sides and the number of cells, one line of density
-/// for each cell, the line `VECTORS momentum int`, and one line of the three parts of the momentum for
-/// each cell. `cells` has one moment for each cell of the space, in the order of the cells' numbers.
+/// The file has ten lines that tell the step, the form, the sides and the number of cells, then the
+/// density of each cell, the line `VECTORS momentum int`, and the three parts of the momentum of each
+/// cell. In ASCII each cell has a line for its density and one for its momentum. In binary each number
+/// has four bytes, in two's complement and the highest first, and one line feed follows all densities
+/// and another all momenta; so there each number is to have at most 32 signed bits. `cells` has one
+/// moment for each cell of the space, in the order of the cells' numbers.
 ///
 /// After an error the sink has got a front of the file. It takes no memory of its own.
 pub fn write_vtk<K: Sink>(
@@ -29,12 +65,14 @@ pub fn write_vtk<K: Sink>(
     space: &Space,
     step: u64,
     cells: &[Moment],
+    format: Format,
 ) -> Result<(), IoEnd>
-    requires { length cells.now ≡ cell_count space.now }
-    ensures { Writes (K.state out.old) (K.state out.new) result (vtk space.now step cells.now) }
+    requires cells { length cells.now ≡ cell_count space.now }
+    requires fits { format ≡ Binary → All FitsInts cells.now }
+    ensures { Writes (K.state out.old) (K.state out.new) result (vtk space.now step cells.now format) }
 {
     let mut pieces = Pieces::new(out);
-    put_file(&mut pieces, space, step, cells)?;
+    put_file(&mut pieces, space, step, cells, format)?;
     pieces.end()
 }
 
@@ -43,14 +81,16 @@ fn put_file<K: Sink>(
     space: &Space,
     step: u64,
     cells: &[Moment],
+    format: Format,
 ) -> Result<(), IoEnd>
-    requires { length cells.now ≡ cell_count space.now }
-    ensures { Puts K.state pieces.old pieces.new result (vtk space.now step cells.now) }
+    requires cells { length cells.now ≡ cell_count space.now }
+    requires fits { format ≡ Binary → All FitsInts cells.now }
+    ensures { Puts K.state pieces.old pieces.new result (vtk space.now step cells.now format) }
 {
-    put_head(pieces, space, step, cells.len() as u64)?;
-    put_densities(pieces, cells)?;
+    put_head(pieces, space, step, cells.len() as u64, format)?;
+    put_densities(pieces, cells, format)?;
     pieces.put(b"VECTORS momentum int\n")?;
-    put_momenta(pieces, cells)
+    put_momenta(pieces, cells, format)
 }
 
 /// Puts the lines before the numbers.
@@ -59,9 +99,10 @@ fn put_head<K: Sink>(
     space: &Space,
     step: u64,
     count: u64,
+    format: Format,
 ) -> Result<(), IoEnd>
     requires { count ≡ cell_count space.now }
-    ensures { Puts K.state pieces.old pieces.new result (flat_map line (head space.now step)) }
+    ensures { Puts K.state pieces.old pieces.new result (flat_map line (head space.now step format)) }
 {
     let [nx, ny, nz] = space.sides();
     put_parts(
@@ -69,7 +110,9 @@ fn put_head<K: Sink>(
         &[
             b"# vtk DataFile Version 3.0\nlattice Boltzmann step ".as_slice(),
             Buffer::new().format(step).as_bytes(),
-            b"\nASCII\nDATASET STRUCTURED_POINTS\nDIMENSIONS ".as_slice(),
+            b"\n".as_slice(),
+            format.name(),
+            b"\nDATASET STRUCTURED_POINTS\nDIMENSIONS ".as_slice(),
             Buffer::new().format(nx).as_bytes(),
             b" ".as_slice(),
             Buffer::new().format(ny).as_bytes(),
@@ -83,49 +126,89 @@ fn put_head<K: Sink>(
 }
 
 /// Puts the density of each cell.
-fn put_densities<K: Sink>(pieces: &mut Pieces<'_, K>, cells: &[Moment]) -> Result<(), IoEnd>
-    ensures { Puts K.state pieces.old pieces.new result (flat_map density_line cells.now) }
+fn put_densities<K: Sink>(
+    pieces: &mut Pieces<'_, K>,
+    cells: &[Moment],
+    format: Format,
+) -> Result<(), IoEnd>
+    requires fits { format ≡ Binary → All FitsInts cells.now }
+    ensures { Puts K.state pieces.old pieces.new result (table format density cells.now) }
 {
     for cell in cells {
-        put_density(pieces, cell)?;
+        put_density(pieces, cell, format)?;
     }
-    Ok(())
+    pieces.put(format.numbers_end())
 }
 
-fn put_density<K: Sink>(pieces: &mut Pieces<'_, K>, cell: &Moment) -> Result<(), IoEnd>
-    ensures { Puts K.state pieces.old pieces.new result (density_line cell.now) }
+fn put_density<K: Sink>(
+    pieces: &mut Pieces<'_, K>,
+    cell: &Moment,
+    format: Format,
+) -> Result<(), IoEnd>
+    requires fits { format ≡ Binary → FitsInts cell.now }
+    ensures { Puts K.state pieces.old pieces.new result (row format (density cell.now)) }
 {
-    let mut rho = Buffer::new();
-    put_parts(pieces, &[rho.format(cell.rho).as_bytes(), b"\n".as_slice()])
+    match format {
+        Format::Ascii => put_parts(
+            pieces,
+            &[Buffer::new().format(cell.rho).as_bytes(), b"\n".as_slice()],
+        ),
+        Format::Binary => pieces.put(&four_bytes(cell.rho)),
+    }
 }
 
 /// Puts the momentum of each cell.
-fn put_momenta<K: Sink>(pieces: &mut Pieces<'_, K>, cells: &[Moment]) -> Result<(), IoEnd>
-    ensures { Puts K.state pieces.old pieces.new result (flat_map momentum_line cells.now) }
+fn put_momenta<K: Sink>(
+    pieces: &mut Pieces<'_, K>,
+    cells: &[Moment],
+    format: Format,
+) -> Result<(), IoEnd>
+    requires fits { format ≡ Binary → All FitsInts cells.now }
+    ensures { Puts K.state pieces.old pieces.new result (table format momentum cells.now) }
 {
     for cell in cells {
-        put_momentum(pieces, cell)?;
+        put_momentum(pieces, cell, format)?;
     }
-    Ok(())
+    pieces.put(format.numbers_end())
 }
 
-fn put_momentum<K: Sink>(pieces: &mut Pieces<'_, K>, cell: &Moment) -> Result<(), IoEnd>
-    ensures { Puts K.state pieces.old pieces.new result (momentum_line cell.now) }
+fn put_momentum<K: Sink>(
+    pieces: &mut Pieces<'_, K>,
+    cell: &Moment,
+    format: Format,
+) -> Result<(), IoEnd>
+    requires fits { format ≡ Binary → FitsInts cell.now }
+    ensures { Puts K.state pieces.old pieces.new result (row format (momentum cell.now)) }
 {
-    let mut jx = Buffer::new();
-    let mut jy = Buffer::new();
-    let mut jz = Buffer::new();
-    put_parts(
-        pieces,
-        &[
-            jx.format(cell.jx).as_bytes(),
-            b" ".as_slice(),
-            jy.format(cell.jy).as_bytes(),
-            b" ".as_slice(),
-            jz.format(cell.jz).as_bytes(),
-            b"\n".as_slice(),
-        ],
-    )
+    match format {
+        Format::Ascii => put_parts(
+            pieces,
+            &[
+                Buffer::new().format(cell.jx).as_bytes(),
+                b" ".as_slice(),
+                Buffer::new().format(cell.jy).as_bytes(),
+                b" ".as_slice(),
+                Buffer::new().format(cell.jz).as_bytes(),
+                b"\n".as_slice(),
+            ],
+        ),
+        Format::Binary => put_parts(
+            pieces,
+            &[
+                four_bytes(cell.jx).as_slice(),
+                four_bytes(cell.jy).as_slice(),
+                four_bytes(cell.jz).as_slice(),
+            ],
+        ),
+    }
+}
+
+/// A number in two's complement, the highest byte first.
+fn four_bytes(number: i64) -> [u8; 4]
+    requires { FitsSigned w32 number }
+    ensures { result ≡ four_bytes number }
+{
+    (number as i32).to_be_bytes()
 }
 
 /// Puts texts, one behind the other.

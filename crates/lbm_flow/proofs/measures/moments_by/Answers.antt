@@ -4,7 +4,7 @@ use Rattle.std.proofs.lemmas.List.Elements.{All-push}
 use Rattle.std.proofs.lemmas.List.FromFn.{map-range_with_len_more}
 use Rattle.lbm_space.specs.Sum.{list_below}
 use Rattle.lbm_model.specs.State.{flow_state}
-use Rattle.lbm_flow.specs.Run.{printed_moment, IsSmallMoment}
+use Rattle.lbm_flow.specs.Reports.{printed_moment, IsSmallMoment}
 use Rattle.lbm_flow.proofs.measures.moments_by.Goals as goal
 
 pub loop-cell-preserved : goal.loop-cell-preserved

@@ -2,7 +2,7 @@ use Rattle.std.proofs.Common.{◌≡◌, ◌∙◌, false, sym, subst}
 use Rattle.lbm_cell.specs.Moments.{populations}
 use Rattle.lbm_model.specs.Case.{is_solid}
 use Rattle.lbm_model.specs.State.{flow_state, population}
-use Rattle.lbm_flow.specs.Run.{IsSmallMoment}
+use Rattle.lbm_flow.specs.Reports.{IsSmallMoment}
 use Rattle.lbm_flow.proofs.SmallMoments.{moment_of-small}
 use Rattle.lbm_flow.proofs.SameMoments.{moment-parts, moment_of-same}
 use Rattle.lbm_flow.proofs.measures.printed_moment.Goals as goal

@@ -1,48 +1,42 @@
-use Rattle.std.proofs.Common.{◌≡◌, ◌∙◌, ◌-◌, ◌<◌, Err, sym, subst, arith}
+use Rattle.std.proofs.Common.{◌-◌, Err, false, sym, subst, arith}
+use Rattle.lbm_flow.specs.Lattices.{standing_of}
 use Rattle.lbm_flow.specs.Running.{Went, RunGives}
 use Rattle.lbm_flow.proofs.Running.{Went-none, Went-more, Went-ends, Went-last, Went-whole}
 use Rattle.lbm_flow.proofs.run.run_pattern.Goals as goal
 
 pub loop-step-init : goal.loop-step-init
 loop-step-init g c =
-    let old = g.P.Pattern.standing c.args.pattern.now in
+    let old = standing_of c.args.lattice.now in
     record { ahead = omega arith; went = subst (λ n. Went old n old) (omega arith) (Went-none old c.requires.unspent) }
-
-pub step-requires : goal.step-requires
-step-requires g c =
-    let went = c.loop-step.invariant.went in
-    let ahead = c.loop-step.invariant.ahead in
-    let at : (g.P.Pattern.standing c.loop-step.pattern).time ≡ c.loop-step.step = went.time ∙ omega arith in
-    subst (λ t. t < 1000000) (sym at) (omega arith)
 
 pub returns-in-Err : goal.returns-in-Err
 returns-in-Err g c =
-    let old = g.P.Pattern.standing c.args.pattern.now in
-    subst (λ end. RunGives g.P.Pattern.WANTS_MEMORY old (g.P.Pattern.standing c.step.new.self) c.args.steps (Err end)) (sym c.at.ensures)
-    (Went-ends g.P.Pattern.WANTS_MEMORY old (g.P.Pattern.standing c.loop-step.pattern) (g.P.Pattern.standing c.step.new.self) c.args.steps c.loop-step.step c.in-Err.end
+    let old = standing_of c.args.lattice.now in
+    subst (λ end. RunGives false old (standing_of c.step.new.self) c.args.steps (Err end)) (sym c.at.ensures)
+    (Went-ends false old (standing_of c.loop-step.lattice) (standing_of c.step.new.self) c.args.steps c.loop-step.step c.in-Err.end
     c.loop-step.invariant.ahead c.loop-step-test.true c.loop-step.invariant.went c.in-Err.ensures)
 
 pub loop-step-preserved : goal.loop-step-preserved
 loop-step-preserved g c =
-    let old = g.P.Pattern.standing c.args.pattern.now in
+    let old = standing_of c.args.lattice.now in
     let gives = c.in_default.ensures in
     let ahead = c.loop-step.invariant.ahead in
     record {
       ahead = omega arith;
-      went = subst (λ n. Went old n (g.P.Pattern.standing c.step.new.self)) (omega arith)
-          (Went-more old (g.P.Pattern.standing c.loop-step.pattern) (g.P.Pattern.standing c.step.new.self) (c.loop-step.step - old.time) c.loop-step.invariant.went gives.0 gives.1);
+      went = subst (λ n. Went old n (standing_of c.step.new.self)) (omega arith)
+          (Went-more old (standing_of c.loop-step.lattice) (standing_of c.step.new.self) (c.loop-step.step - old.time) c.loop-step.invariant.went gives.0 gives.1);
     }
 
 pub returns-in-Some : goal.returns-in-Some
 returns-in-Some g c =
-    let old = g.P.Pattern.standing c.args.pattern.now in
-    let now = g.P.Pattern.standing c.loop-step.pattern in
+    let old = standing_of c.args.lattice.now in
+    let now = standing_of c.loop-step.lattice in
     let went : Went old (c.args.steps - old.time) now = subst (λ n. Went old n now) (omega arith) c.loop-step.invariant.went in
-    Went-last g.P.Pattern.WANTS_MEMORY old now c.args.steps c.in-Some.cell c.requires.ahead went (sym c.in-Some.ensures)
+    Went-last false old now c.args.steps c.in-Some.cell c.requires.ahead went (sym c.in-Some.ensures)
 
 pub returns-in-None : goal.returns-in-None
 returns-in-None g c =
-    let old = g.P.Pattern.standing c.args.pattern.now in
-    let now = g.P.Pattern.standing c.loop-step.pattern in
+    let old = standing_of c.args.lattice.now in
+    let now = standing_of c.loop-step.lattice in
     let went : Went old (c.args.steps - old.time) now = subst (λ n. Went old n now) (omega arith) c.loop-step.invariant.went in
-    Went-whole g.P.Pattern.WANTS_MEMORY old now c.args.steps went (sym c.in-None.ensures)
+    Went-whole false old now c.args.steps went (sym c.in-None.ensures)

@@ -1,11 +1,12 @@
 use Rattle.std.proofs.Common.{◌≤◌, ◌-◌}
+use Rattle.lbm_flow.specs.Lattices.{standing_of}
 use Rattle.lbm_flow.specs.Running.{Went}
 use Rattle.lbm_flow.proofs.run.run_pattern.Given as goal
 
 abbrev pub invariant-loop-step : goal.invariant-loop-step
 invariant-loop-step g l =
-    let old = g.P.Pattern.standing l.fn.pattern in
+    let old = standing_of l.fn.lattice in
     record {
       ahead : old.time ≤ l.step;
-      went : Went old (l.step - old.time) (g.P.Pattern.standing l.pattern);
+      went : Went old (l.step - old.time) (standing_of l.lattice);
     }

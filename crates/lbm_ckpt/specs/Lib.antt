@@ -1,0 +1,3 @@
+pub mod Ckpt
+pub mod Laws
+pub mod Hashing

@@ -1,0 +1,14 @@
+//! What holds of every run.
+//!
+//! The function does nothing: its contract is the theorem.
+
+ghost use Rattle.lbm_flow.specs.Laws.{ResumeLaw, ResumedRequest, SaveLaw};
+
+/// A run that goes on from a checkpoint comes to what the whole run comes to, where the checkpoint, of either version, is
+/// of the same case bytes and of the state that the run from the first state reaches at a step up to the last one. Such a
+/// checkpoint is what a run to that step saves.
+pub fn resume_law()
+    ensures resume { ResumeLaw }
+    ensures request { ResumedRequest }
+    ensures saved { SaveLaw }
+{}

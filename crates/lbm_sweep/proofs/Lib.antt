@@ -1,0 +1,14 @@
+pub mod Columns
+pub mod Copied
+pub mod Filled
+pub mod Firsts
+pub mod Joined
+pub mod Lattices
+pub mod OwnPlaces
+pub mod Places
+pub mod Placing
+pub mod Regions
+pub mod RuleLanes
+pub mod Steps
+pub mod Sweeps
+pub mod Written

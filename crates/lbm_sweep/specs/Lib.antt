@@ -1,0 +1,9 @@
+pub mod First
+pub mod Blocks
+pub mod Sweep
+pub mod Spans
+pub mod Laws
+pub mod Slabs
+pub mod Regions
+pub mod Steps
+pub mod Lattices

@@ -1,0 +1,7 @@
+pub mod Simple
+pub mod NumberLemmas
+pub mod CommandLemmas
+pub mod EndLemmas
+pub mod Ranges
+pub mod OtherWords
+pub mod Worked

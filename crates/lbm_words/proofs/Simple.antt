@@ -1,0 +1,17 @@
+-- The commands are those whose parse is known.
+use Rattle.std.proofs.Common.{◌≡◌, true, refl}
+use Rattle.clap.specs.Words.{is_simple_and_free}
+use Rattle.clap.proofs.OnLiterals.{clap_on_literals}
+use Rattle.lbm_words.specs.Commands.{run_app, check_app, demo_app}
+
+pub run_app-is_simple : is_simple_and_free run_app ≡ true
+unfolding clap_on_literals run_app
+run_app-is_simple = refl
+
+pub check_app-is_simple : is_simple_and_free check_app ≡ true
+unfolding clap_on_literals check_app
+check_app-is_simple = refl
+
+pub demo_app-is_simple : is_simple_and_free demo_app ≡ true
+unfolding clap_on_literals demo_app
+demo_app-is_simple = refl

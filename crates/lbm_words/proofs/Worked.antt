@@ -1,0 +1,61 @@
+-- Lists of words, and what the definition gives for them, by computation.
+use Rattle.std.proofs.Common.{◌≡◌, ℕ, true, refl, List, [], ◌∷◌, Some, None, codes}
+use Rattle.std.specs.Prelude.{is_none}
+use Rattle.std.specs.List.{list_all}
+use Rattle.clap.proofs.OnLiterals.{clap_on_literals}
+use Rattle.lbm_vtk.specs.declared.Format.TheVariants.{Ascii, Binary}
+use Rattle.lbm_words.specs.declared.request.PatternKind.TheVariants.{Aa, Tiles}
+use Rattle.lbm_words.specs.Numbers.{number_of, numbers_of}
+use Rattle.lbm_words.specs.Commands.{run_app, check_app, demo_app}
+use Rattle.lbm_words.specs.Request.{run, check}
+use Rattle.lbm_words.specs.Words.{request_of, run_asked, check_asked, demo_asked, run_of, check_of, demo_of, choice_of}
+
+plain_run : request_of (codes "run" ∷ codes "c" ∷ codes "5" ∷ codes "o" ∷ []) ≡ Some (run (record {
+  case = codes "c";
+  steps = 5;
+  out = codes "o";
+  choice = record { pattern = Aa; workers = 1; cut = None; tile = 8 };
+  resume = None;
+  save = None;
+  format = Ascii;
+}))
+unfolding request_of run_asked run_app run_of choice_of number_of numbers_of clap_on_literals
+plain_run = refl
+
+full_run : request_of (codes "run" ∷ codes "--tile=3" ∷ codes "--workers" ∷ codes "4" ∷ codes "--save" ∷ codes "s" ∷ codes "c" ∷ codes "--cut=01,20" ∷ codes "05" ∷ codes "--resume=s" ∷ codes "--pattern" ∷ codes "tiles" ∷ codes "--format" ∷ codes "binary" ∷ codes "--" ∷ codes "--o" ∷ []) ≡ Some (run (record {
+  case = codes "c";
+  steps = 5;
+  out = codes "--o";
+  choice = record { pattern = Tiles; workers = 4; cut = Some (1 ∷ 20 ∷ []); tile = 3 };
+  resume = Some (codes "s");
+  save = Some (codes "s");
+  format = Binary;
+}))
+unfolding request_of run_asked run_app run_of choice_of number_of numbers_of clap_on_literals
+full_run = refl
+
+plain_check : request_of (codes "check" ∷ codes "c" ∷ []) ≡ Some (check (record { case = codes "c" }))
+unfolding request_of check_asked check_app check_of number_of numbers_of clap_on_literals
+plain_check = refl
+
+wrong_uses : List (List (List ℕ))
+wrong_uses =
+    []
+    ∷ (codes "walk" ∷ codes "c" ∷ [])
+    ∷ (codes "run" ∷ codes "c" ∷ codes "5" ∷ [])
+    ∷ (codes "run" ∷ codes "c" ∷ codes "1000001" ∷ codes "o" ∷ [])
+    ∷ (codes "run" ∷ codes "c" ∷ codes "5" ∷ codes "o" ∷ codes "--workers" ∷ codes "0" ∷ [])
+    ∷ (codes "run" ∷ codes "c" ∷ codes "5" ∷ codes "o" ∷ codes "--pattern" ∷ codes "AA" ∷ [])
+    ∷ (codes "run" ∷ codes "c" ∷ codes "5" ∷ codes "o" ∷ codes "--cut" ∷ codes "1,,2" ∷ [])
+    ∷ (codes "run" ∷ codes "c" ∷ codes "5" ∷ codes "o" ∷ codes "--save" ∷ codes "o" ∷ [])
+    ∷ (codes "run" ∷ codes "c" ∷ codes "5" ∷ codes "c" ∷ [])
+    ∷ (codes "demo" ∷ codes "0" ∷ codes "5" ∷ codes "o" ∷ [])
+    ∷ (codes "demo" ∷ codes "1" ∷ codes "5" ∷ codes "o" ∷ codes "--resume" ∷ codes "s" ∷ [])
+    ∷ (codes "run" ∷ codes "c" ∷ codes "5" ∷ codes "o" ∷ codes "--tile" ∷ codes "8" ∷ codes "--tile" ∷ codes "8" ∷ [])
+    ∷ (codes "check" ∷ codes "c" ∷ codes "--tile" ∷ codes "8" ∷ [])
+    ∷ (codes "run" ∷ codes "c" ∷ codes "5" ∷ codes "o" ∷ codes "-h" ∷ [])
+    ∷ []
+
+all_refused : list_all (λ words. is_none (request_of words)) wrong_uses ≡ true
+unfolding request_of run_asked check_asked demo_asked run_app check_app demo_app run_of check_of demo_of choice_of number_of numbers_of clap_on_literals wrong_uses
+all_refused = refl

@@ -1,0 +1,6 @@
+pub mod Ends
+pub mod Numbers
+pub mod Names
+pub mod Commands
+pub mod Request
+pub mod Words

@@ -1,0 +1,26 @@
+-- The numbers of the command line.
+use Rattle.std.specs.Prelude.{ℕ, List, [], ◌∷◌, length, Bool, ◌&&◌, ◌==◌, nat_le, if◌then◌else◌, Option, Some, None, option_and_then, option_map}
+use Rattle.std.specs.Char.{is_ascii_digit}
+use Rattle.std.specs.List.{list_all, slice_split}
+use Rattle.std.specs.Str.Parse.{digits_value}
+
+-- a number is 1 to 9 decimal digits and nothing else
+unfoldable pub number_of : List ℕ → Option ℕ
+number_of text =
+    if nat_le 1 (length text) && nat_le (length text) 9 && list_all is_ascii_digit text then Some (digits_value 10 text) else None
+
+-- a number from low to high
+abbrev pub number_between : ℕ → ℕ → List ℕ → Option ℕ
+number_between low high text = option_and_then (λ n. if nat_le low n && nat_le n high then Some n else None) (number_of text)
+
+-- what each of the texts says in a form, if each says something
+abbrev pub each : {A : Type 0} → (List ℕ → Option A) → List (List ℕ) → Option (List A)
+each form [] = Some []
+each form (text ∷ texts) = option_and_then (λ x. option_map (λ xs. x ∷ xs) (each form texts)) (form text)
+
+abbrev pub is_comma : ℕ → Bool
+is_comma byte = byte == 44
+
+-- 1 to 4095 numbers, joined by single commas
+unfoldable pub numbers_of : List ℕ → Option (List ℕ)
+numbers_of text = option_and_then (λ ns. if nat_le (length ns) 4095 then Some ns else None) (each number_of (slice_split is_comma text))

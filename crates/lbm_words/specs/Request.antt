@@ -1,0 +1,108 @@
+-- What words ask for. Names are the bytes of the words.
+use Rattle.std.specs.Prelude.{ℕ, ◌≤◌, ◌≢◌, List, length, option_map, Option, IfSome}
+use Rattle.lbm_vtk.specs.declared.Format.{Format}
+use Rattle.lbm_words.specs.declared.request.PatternKind.{PatternKind}
+use Rattle.lbm_words.specs.declared.request.Choice.{Choice as CodeChoice}
+use Rattle.lbm_words.specs.declared.request.Run.{Run as CodeRun}
+use Rattle.lbm_words.specs.declared.request.Check.{Check as CodeCheck}
+use Rattle.lbm_words.specs.declared.request.Demo.{Demo as CodeDemo}
+use Rattle.lbm_words.specs.declared.request.Request.{Request as CodeRequest}
+use Rattle.lbm_words.specs.declared.request.Request.TheVariants as code
+
+-- how the lattice is worked through: the pattern, the number of workers, the rows at which it is cut, where they are
+-- given, and the number of rows of a tile
+pub record Choice : Type 0 where
+  pub pattern : PatternKind
+  pub workers : ℕ
+  pub cut : Option (List ℕ)
+  pub tile : ℕ
+
+-- a run of the case in a file, over a number of steps, whose result goes to a file `out`; it may begin with a checkpoint
+-- and save its last one
+pub record Run : Type 0 where
+  pub case : List ℕ
+  pub steps : ℕ
+  pub out : List ℕ
+  pub choice : Choice
+  pub resume : Option (List ℕ)
+  pub save : Option (List ℕ)
+  pub format : Format
+
+-- a check of the case in a file
+pub record Check : Type 0 where
+  pub case : List ℕ
+
+-- a run of the generated case of a size n
+pub record Demo : Type 0 where
+  pub n : ℕ
+  pub steps : ℕ
+  pub out : List ℕ
+  pub choice : Choice
+  pub save : Option (List ℕ)
+  pub format : Format
+
+pub data Request : Type 0 where
+  run : Run → Request
+  check : Check → Request
+  demo : Demo → Request
+
+-- what the values of the code stand for
+abbrev pub choice_view : CodeChoice → Choice
+choice_view c = record { pattern = c.pattern; workers = c.workers; cut = option_map (λ rows. rows.items) c.cut; tile = c.tile }
+
+abbrev pub run_view : CodeRun → Run
+run_view r = record {
+  case = r.case.now;
+  steps = r.steps;
+  out = r.out.now;
+  choice = choice_view r.choice;
+  resume = option_map (λ name. name.now) r.resume;
+  save = option_map (λ name. name.now) r.save;
+  format = r.format;
+}
+
+abbrev pub check_view : CodeCheck → Check
+check_view r = record { case = r.case.now }
+
+abbrev pub demo_view : CodeDemo → Demo
+demo_view r = record {
+  n = r.n;
+  steps = r.steps;
+  out = r.out.now;
+  choice = choice_view r.choice;
+  save = option_map (λ name. name.now) r.save;
+  format = r.format;
+}
+
+abbrev pub request_view : CodeRequest → Request
+request_view (code.Run r) = run (run_view r)
+request_view (code.Check r) = check (check_view r)
+request_view (code.Demo r) = demo (demo_view r)
+
+-- the ranges of the numbers
+pub record IsChoice (c : Choice) : Type 0 where
+  pub some_workers : 1 ≤ c.workers
+  pub few_workers : c.workers ≤ 64
+  pub cut : IfSome c.cut (λ rows. (1 ≤ length rows) × (length rows ≤ 4095))
+  pub some_rows : 1 ≤ c.tile
+  pub few_rows : c.tile ≤ 4096
+
+-- the ranges of the numbers, and the names that differ
+pub record IsRun (r : Run) : Type 0 where
+  pub few_steps : r.steps ≤ 1000000
+  pub choice : IsChoice r.choice
+  pub out_is_not_case : r.out ≢ r.case
+  pub save_is_not_out : IfSome r.save (λ save. save ≢ r.out)
+  pub save_is_not_case : IfSome r.save (λ save. save ≢ r.case)
+
+pub record IsDemo (r : Demo) : Type 0 where
+  pub some : 1 ≤ r.n
+  pub few : r.n ≤ 128
+  pub few_steps : r.steps ≤ 1000000
+  pub choice : IsChoice r.choice
+  pub save_is_not_out : IfSome r.save (λ save. save ≢ r.out)
+
+abbrev pub IsRequest : Request → Type 0
+IsRequest (run r) = IsRun r
+IsRequest (check r) = Unit {0}
+IsRequest (demo r) = IsDemo r

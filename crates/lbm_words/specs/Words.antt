@@ -1,0 +1,119 @@
+-- What the words after the program's name ask for. `None` is a wrong use of the program.
+use Rattle.std.specs.Prelude.{ℕ, List, [], ◌∷◌, codes, Bool, true, not, ◌&&◌, if◌then◌else◌, Option, Some, None, option_and_then, option_map}
+use Rattle.std.specs.Option.{option_map_or}
+use Rattle.std.specs.Str.{bytes_eq}
+use Rattle.clap.specs.Walk.{Row, Text, first_of, is_empty, rows_of}
+use Rattle.clap.specs.Simple.{App, matches_of}
+use Rattle.clap.specs.Faults.{fault_of}
+use Rattle.clap.specs.Matches.{found_of}
+use Rattle.clap.specs.declared.parser.matches.ArgMatches.{ArgMatches}
+use Rattle.lbm_vtk.specs.declared.Format.{Format}
+use Rattle.lbm_vtk.specs.declared.Format.TheVariants.{Ascii}
+use Rattle.lbm_words.specs.declared.request.PatternKind.TheVariants.{Aa}
+use Rattle.lbm_words.specs.Numbers.{number_between, numbers_of}
+use Rattle.lbm_words.specs.Names.{pattern_named, format_named}
+use Rattle.lbm_words.specs.Commands.{run_app, check_app, demo_app}
+use Rattle.lbm_words.specs.Request.{Choice, Request, run, check, demo}
+
+-- what is read goes on to f, and a refusal ends the reading
+infixl 10 ◌>>=◌
+abbrev pub ◌>>=◌ : {A B : Type 0} → Option A → (A → Option B) → Option B
+(Some x) >>= f = f x
+None >>= f = None
+
+-- a refusal where a test fails
+abbrev pub demand : Bool → Option (Unit {0})
+demand test = if test then Some tt else None
+
+-- the value of a positional word, in a form
+abbrev pub required : {A : Type 0} → (Text → Option A) → Text → List Row → Option A
+required form name rows = option_and_then form (first_of name rows)
+
+-- the value of an option, in a form, or a default where the option is absent
+abbrev pub optional : {A : Type 0} → (Text → Option A) → A → Text → List Row → Option A
+optional form default name rows = option_map_or form (first_of name rows) (Some default)
+
+-- the number of steps, at most a million
+abbrev pub steps_of : List Row → Option ℕ
+steps_of = required (number_between 0 1000000) (codes "steps")
+
+-- the format of the result
+abbrev pub format_of : List Row → Option Format
+format_of = optional format_named Ascii (codes "format")
+
+-- the values that say how the lattice is worked through
+unfoldable pub choice_of : List Row → Option Choice
+choice_of rows = do
+  pattern ← optional pattern_named Aa (codes "pattern") rows
+  workers ← optional (number_between 1 64) 1 (codes "workers") rows
+  cut ← optional (λ text. option_map Some (numbers_of text)) None (codes "cut") rows
+  tile ← optional (number_between 1 4096) 8 (codes "tile") rows
+  Some (record { pattern = pattern; workers = workers; cut = cut; tile = tile })
+
+-- whether a name that may be absent is another one
+abbrev pub is_other : Text → Option Text → Bool
+is_other name other = option_map_or (λ text. not (bytes_eq text name)) other true
+
+-- the run that the values ask for, where the names of the case, the result and the saved file are different
+unfoldable pub run_of : List Row → Option Request
+run_of rows = do
+  case ← first_of (codes "case") rows
+  steps ← steps_of rows
+  out ← first_of (codes "out") rows
+  choice ← choice_of rows
+  format ← format_of rows
+  distinct ← demand (is_other case (Some out) && is_other case save && is_other out save)
+  Some (run (record { case = case; steps = steps; out = out; choice = choice; resume = resume; save = save; format = format }))
+  where
+    resume : Option Text
+    resume = first_of (codes "resume") rows
+
+    save : Option Text
+    save = first_of (codes "save") rows
+
+-- the check that the values ask for
+unfoldable pub check_of : List Row → Option Request
+check_of rows = do
+  case ← first_of (codes "case") rows
+  Some (check (record { case = case }))
+
+-- the run of a generated case that the values ask for, where the names of the result and the saved file are different
+unfoldable pub demo_of : List Row → Option Request
+demo_of rows = do
+  n ← required (number_between 1 128) (codes "n") rows
+  steps ← steps_of rows
+  out ← first_of (codes "out") rows
+  choice ← choice_of rows
+  format ← format_of rows
+  distinct ← demand (is_other out save)
+  Some (demo (record { n = n; steps = steps; out = out; choice = choice; save = save; format = format }))
+  where
+    save : Option Text
+    save = first_of (codes "save") rows
+
+-- what the matches of a parse hold
+abbrev pub rows_in : ArgMatches → List Row
+rows_in matches = rows_of (found_of matches)
+
+-- what the command finds in the words, where it takes them
+abbrev pub taken : App → List Text → Option (List Row)
+taken app words = if is_empty (fault_of app words) then Some (matches_of app words) else None
+
+-- what the words ask for as words of a command
+unfoldable pub run_asked : List Text → Option Request
+run_asked words = taken run_app words >>= run_of
+
+unfoldable pub check_asked : List Text → Option Request
+check_asked words = taken check_app words >>= check_of
+
+unfoldable pub demo_asked : List Text → Option Request
+demo_asked words = taken demo_app words >>= demo_of
+
+-- the first word is the command; the words of the command begin with it
+unfoldable pub request_of : List Text → Option Request
+request_of [] = None
+request_of (name ∷ rest) =
+    if bytes_eq name (codes "run") then run_asked (name ∷ rest)
+    else if bytes_eq name (codes "check") then check_asked (name ∷ rest)
+    else if bytes_eq name (codes "demo") then demo_asked (name ∷ rest)
+    else None

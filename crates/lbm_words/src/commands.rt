@@ -1,0 +1,98 @@
+//! The commands of the program, each as `clap` reads its words.
+
+ghost use Rattle.std.specs.Prelude.{◌≡◌, map, false, IfOk};
+ghost use Rattle.clap.specs.Words.{app_of, rule_of};
+ghost use Rattle.lbm_words.specs.Commands.{positional, option, with_rules, command_of, run_app, check_app, demo_app};
+
+use clap::{Arg, ArgAction, Command};
+use std::alloc::{AllocError, Global};
+
+/// A positional word, which has to be there.
+fn positional<'a>(alloc: Global, name: &'a str) -> Arg<'a>
+    ensures rule { rule_of result ≡ positional name.entry.now }
+    ensures local { result.global ≡ false }
+{
+    Arg::new(alloc, name).required(true).action(ArgAction::Set)
+}
+
+/// An option with one value.
+fn option<'a>(alloc: Global, name: &'a str) -> Arg<'a>
+    ensures rule { rule_of result ≡ option name.entry.now }
+    ensures local { result.global ≡ false }
+{
+    Arg::new(alloc, name).long(name).action(ArgAction::Set)
+}
+
+/// The command with these positional words behind its own.
+fn with_positionals<'a>(
+    alloc: Global,
+    command: Command<'a>,
+    names: &[&'a str],
+) -> Result<Command<'a>, AllocError>
+    ensures { IfOk result (λ more. app_of more ≡ with_rules (app_of command.entry) (map (λ name. positional name.now) names.now)) }
+{
+    let mut command = command;
+    for name in names {
+        command = command.arg(positional(alloc, name))?;
+    }
+    Ok(command)
+}
+
+/// The command with these options behind its own.
+fn with_options<'a>(
+    alloc: Global,
+    command: Command<'a>,
+    names: &[&'a str],
+) -> Result<Command<'a>, AllocError>
+    ensures { IfOk result (λ more. app_of more ≡ with_rules (app_of command.entry) (map (λ name. option name.now) names.now)) }
+{
+    let mut command = command;
+    for name in names {
+        command = command.arg(option(alloc, name))?;
+    }
+    Ok(command)
+}
+
+/// A command with these positional words and these options.
+fn command_of<'a>(
+    alloc: Global,
+    name: &'a str,
+    positionals: &[&'a str],
+    options: &[&'a str],
+) -> Result<Command<'a>, AllocError>
+    ensures { IfOk result (λ command. app_of command ≡ command_of name.entry.now (map (λ name. name.now) positionals.now) (map (λ name. name.now) options.now)) }
+{
+    let bare = Command::new(alloc, name)
+        .disable_help_flag(true)
+        .disable_version_flag(true);
+    let positioned = with_positionals(alloc, bare, positionals)?;
+    with_options(alloc, positioned, options)
+}
+
+/// `run CASE STEPS OUT`.
+#[tactic(auto, unfolding(crate::specs::Commands::run_app))]
+pub(crate) fn run_command<'a>(alloc: Global) -> Result<Command<'a>, AllocError>
+    ensures { IfOk result (λ command. app_of command ≡ run_app) }
+{
+    let options = [
+        "pattern", "workers", "cut", "tile", "resume", "save", "format",
+    ];
+    command_of(alloc, "run", &["case", "steps", "out"], &options)
+}
+
+/// `check CASE`.
+#[tactic(auto, unfolding(crate::specs::Commands::check_app))]
+pub(crate) fn check_command<'a>(alloc: Global) -> Result<Command<'a>, AllocError>
+    ensures { IfOk result (λ command. app_of command ≡ check_app) }
+{
+    command_of(alloc, "check", &["case"], &[])
+}
+
+/// `demo N STEPS OUT`.
+#[tactic(auto, unfolding(crate::specs::Commands::demo_app))]
+pub(crate) fn demo_command<'a>(alloc: Global) -> Result<Command<'a>, AllocError>
+    ensures { IfOk result (λ command. app_of command ≡ demo_app) }
+{
+    let options = ["pattern", "workers", "cut", "tile", "save", "format"];
+    command_of(alloc, "demo", &["n", "steps", "out"], &options)
+}

@@ -1,0 +1,85 @@
+//! What the words ask for.
+
+use lbm_vtk::Format;
+
+/// How populations are kept, and moved from cell to cell.
+#[derive(Clone, Copy, Debug, PartialEq, Eq)]
+pub enum PatternKind {
+    /// Two lattices: a step reads one and writes the other.
+    Two,
+    /// One lattice, in which each population changes places with the opposite one of the neighbour.
+    Swap,
+    /// One lattice with a margin, by which a step moves it to and fro.
+    Grid,
+    /// One lattice in place, by the AA pattern.
+    Aa,
+    /// The AA pattern over tiles of rows, which the workers take one by one.
+    Tiles,
+}
+
+/// How the lattice is worked through.
+#[derive(Debug, Drop)]
+pub struct Choice {
+    /// How populations are kept and moved.
+    pub pattern: PatternKind,
+    /// The number of workers, from 1 to 64.
+    pub workers: u32,
+    /// The rows at which the lattice is cut, 1 to 4095 of them, where they are given.
+    pub cut: Option<Vec<u32>>,
+    /// The number of rows of a tile, from 1 to 4096.
+    pub tile: u32,
+}
+
+/// A run of a case.
+#[derive(Debug, Drop)]
+pub struct Run<'a> {
+    /// The name of the file with the case.
+    pub case: &'a str,
+    /// The number of the last step, at most 1000000.
+    pub steps: u32,
+    /// The name of the file for the result.
+    pub out: &'a str,
+    /// How the lattice is worked through.
+    pub choice: Choice,
+    /// The name of the checkpoint to begin with.
+    pub resume: Option<&'a str>,
+    /// The name of the file for the last checkpoint.
+    pub save: Option<&'a str>,
+    /// How the numbers of the result are written.
+    pub format: Format,
+}
+
+/// A check of a case.
+#[derive(Debug, Drop)]
+pub struct Check<'a> {
+    /// The name of the file with the case.
+    pub case: &'a str,
+}
+
+/// A run of a generated case.
+#[derive(Debug, Drop)]
+pub struct Demo<'a> {
+    /// The size of the case, from 1 to 128.
+    pub n: u32,
+    /// The number of the last step, at most 1000000.
+    pub steps: u32,
+    /// The name of the file for the result.
+    pub out: &'a str,
+    /// How the lattice is worked through.
+    pub choice: Choice,
+    /// The name of the file for the last checkpoint.
+    pub save: Option<&'a str>,
+    /// How the numbers of the result are written.
+    pub format: Format,
+}
+
+/// What the words ask for.
+#[derive(Debug, Drop)]
+pub enum Request<'a> {
+    /// A run of a case.
+    Run(Run<'a>),
+    /// A check of a case.
+    Check(Check<'a>),
+    /// A run of a generated case.
+    Demo(Demo<'a>),
+}
