@@ -1,7 +1,10 @@
 -- The test of a box.
-use Rattle.std.proofs.Common.{◌≡◌, ◌⊎◌, ℕ, ◌≤◌, ◌<◌, true, not, ◌||◌, cond, eqb, Option, Some, None, sym, ◌∙◌, ap, inl, inr, SomeIff}
+use Rattle.std.proofs.Common.{◌≡◌, ◌⊎◌, ℕ, ◌≤◌, ◌<◌, true, not, ◌||◌, cond, eqb, Option, Some, None, refl, sym, ◌∙◌, ap, inl, inr, SomeIff}
 use Rattle.std.proofs.lemmas.Bool.{cases_Bool, and_parts, and_from, or_cases, or_left, or_right, leb-true, le-leb, eqb-true, eq-eqb, ne_eqb, cases_eq, not-true, cond-true, cond-false, both_ways}
 use Rattle.lbm_space.specs.Torus.{Torus, IsSpace}
+use Rattle.lbm_model.specs.Sets.{stencil_of}
+use Rattle.lbm_model.specs.declared.sets.SetKind.{SetKind}
+use Rattle.lbm_model.specs.declared.sets.SetKind.TheVariants.{D2Q9, D3Q19}
 use Rattle.lbm_case.specs.Drawing.{is_side, is_space}
 
 side_from : (n : ℕ) → is_side n ≡ true → (0 < n) × (n ≤ 4096)
@@ -50,6 +53,11 @@ is_space-from_IsSpace t allowed =
     (and_from _ _ (and_from _ _ (side_test t.nx allowed.some_x allowed.few_x) (side_test t.ny allowed.some_y allowed.few_y)) (side_test t.nz allowed.some_z allowed.few_z))
     (flat_test t.dimension t.nz allowed.flat))
     (le-leb _ _ allowed.fits)
+
+-- the lattice of a velocity set is a plane or a space
+pub two_or_three : (set : SetKind) → ((stencil_of set).dimension ≡ 2) ⊎ ((stencil_of set).dimension ≡ 3)
+two_or_three D2Q9 = inl refl
+two_or_three D3Q19 = inr refl
 
 -- a box is given exactly where it is allowed
 pub given_space : (t : Torus) (r : Option Torus) → (t.dimension ≡ 2) ⊎ (t.dimension ≡ 3) → SomeIff r (IsSpace t) t → r ≡ cond (is_space t) (Some t) None

@@ -1,3 +1,4 @@
+pub mod Readings
 pub mod TableLemmas
 pub mod SettingsLemmas
 pub mod Places
@@ -10,3 +11,4 @@ pub mod DataSizes
 pub mod TextSizes
 pub mod TableSizes
 pub mod SmallRows
+pub mod Spelled

@@ -1,17 +1,17 @@
 -- The rows of a case file of at most 33,554,432 bytes are numbered in 32 bits, and so are their columns.
-use Rattle.std.proofs.Common.{◌≡◌, ℕ, zero, suc, ◌+◌, ◌-◌, ◌*◌, ◌≤◌, List, [], ◌∷◌, map, length, Option, Some, None, option_map, option_and_then, Ok, ok_or, arith}
+use Rattle.std.proofs.Common.{◌≡◌, ℕ, zero, suc, ◌+◌, ◌-◌, ◌*◌, ◌≤◌, List, [], ◌∷◌, map, length, Some, None, option_map, option_and_then, Ok, ok_or, arith}
 use Rattle.std.specs.Str.{chars, chars_after, continuation_len, lead_bits, is_utf8}
 use Rattle.std.proofs.lemmas.List.{length-map}
 use Rattle.std.proofs.lemmas.Option.{none-some, same_Some}
 use Rattle.toml.specs.Data.{Data, Items, no_items, item, Members, string, array, as_str, as_array}
 use Rattle.toml.specs.Parse.{parse_document}
 use Rattle.lbm_case.specs.declared.key.Key.TheVariants.{Map}
-use Rattle.lbm_case.specs.declared.fault.CaseFault.{CaseFault}
 use Rattle.lbm_case.specs.declared.fault.CaseFault.TheVariants.{NotToml}
 use Rattle.lbm_case.specs.Keys.{name_of}
 use Rattle.lbm_case.specs.Settings.{each_in, texts_in, value_at, required}
 use Rattle.lbm_case.specs.Drawing.{IsSmall, row}
 use Rattle.lbm_case.specs.CaseOf.{table_of}
+use Rattle.lbm_case.proofs.Readings.{found}
 use Rattle.lbm_case.proofs.DataSizes.{size, items_size, members_size}
 use Rattle.lbm_case.proofs.TextSizes.{chosen, stepped, mapped}
 use Rattle.lbm_case.proofs.TableSizes.{parse_document_short, get_member_short}
@@ -64,22 +64,18 @@ texts_in_size d ts given =
     (λ ds is each. let whole = as_array_size d ds is in let texts = each_in_size ds ts each in omega arith)
     given
 
-found_ok : {A : Type 0} (o : Option A) (x : A) (fault : CaseFault) → ok_or o fault ≡ Ok x → o ≡ Some x
-found_ok None x fault given = cc
-found_ok (Some y) x fault given = cc
-
 rows_size : (ms : Members) (ts : List (List ℕ)) → required texts_in Map ms ≡ Ok ts → texts_size ts ≤ members_size ms
 rows_size ms ts given =
     stepped texts_in (value_at Map ms) ts
     (λ d is texts. let whole = get_member_short (name_of Map) ms d is in let rows = texts_in_size d ts texts in omega arith)
-    (found_ok (option_and_then texts_in (value_at Map ms)) ts _ given)
+    (found (option_and_then texts_in (value_at Map ms)) ts _ given)
 
 table_size : (bytes : List ℕ) (ms : Members) → ok_or (table_of bytes) NotToml ≡ Ok ms → members_size ms ≤ length bytes
 table_size bytes ms given =
     chosen (is_utf8 bytes) (parse_document bytes) None (Some ms)
     (λ _ read. parse_document_short bytes ms read)
     (λ _ none. absurd (none-some _ none))
-    (found_ok (table_of bytes) ms NotToml given)
+    (found (table_of bytes) ms NotToml given)
 
 pub small_rows : (bytes : List ℕ) (ms : Members) (ts : List (List ℕ)) → length bytes ≤ 33554432 → ok_or (table_of bytes) NotToml ≡ Ok ms → required texts_in Map ms ≡ Ok ts → IsSmall (map chars ts)
 small_rows bytes ms ts few read rows =

@@ -6,3 +6,4 @@ pub mod Numbers
 pub mod Drawing
 pub mod Moving
 pub mod CaseOf
+pub mod Laws

@@ -6,6 +6,7 @@ mod document;
 mod drawing;
 mod fault;
 mod key;
+pub mod laws;
 mod numbers;
 mod read;
 mod rows;

@@ -1,3 +1,4 @@
+#![tactic(auto)]
 //! Checkpoints: the step and the state of a flow as bytes, under the digest of their case.
 //!
 //! A checkpoint is written in version 2, and read in versions 1 and 2. Numbers are big-endian.
@@ -10,7 +11,6 @@
 //! | 16 bytes | 4 bytes | the sides and the number of directions; the number of cells |
 //! | 4 bytes each | 4 bytes each | the populations, in order of cell and then direction |
 //! | 32 bytes | 32 bytes | the SHA-256 of all bytes before |
-#![tactic(auto)]
 
 mod fault;
 pub mod laws;

@@ -14,4 +14,6 @@ pub mod Finishing
 pub mod BadCuts
 pub mod Beginnings
 pub mod SavedFiles
+pub mod Sure
+pub mod Gathered
 pub mod Resumed

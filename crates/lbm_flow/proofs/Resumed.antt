@@ -12,6 +12,8 @@ use Rattle.lbm_model.specs.Flow.{IsStateOf, RunEnd, reached, range, first, next,
 use Rattle.lbm_model.proofs.Mass.{goes_on}
 use Rattle.lbm_model.proofs.SmallStates.{narrow-first, narrow-reached, small-narrow, small-run}
 use Rattle.lbm_case.specs.CaseOf.{case_of}
+use Rattle.lbm_case.specs.declared.fault.CaseFault.{CaseFault}
+use Rattle.lbm_case.proofs.Spelled.{spells-cases}
 use Rattle.lbm_ckpt.specs.Ckpt.{checkpoint_of, ckpt, ckpt_1, ckpt_size}
 use Rattle.lbm_ckpt.specs.Laws.{CanBeKept}
 use Rattle.lbm_ckpt.proofs.Round.{read_again, exact_size}
@@ -19,7 +21,7 @@ use Rattle.lbm_ckpt.proofs.Sized.{length-sha256}
 use Rattle.lbm_flow.specs.declared.answer.File.TheVariants.{CaseFile}
 use Rattle.lbm_flow.specs.declared.answer.End.{End}
 use Rattle.lbm_flow.specs.declared.answer.End.TheVariants.{TooLong}
-use Rattle.lbm_flow.specs.Outcome.{◌>>=◌, Job, Finished, admitted, begun, bad_cut, case_limit, concluded, demand, finished, job_outcome, outcome, resumed, run_from, run_job, uncut, vtk_of, written}
+use Rattle.lbm_flow.specs.Outcome.{◌>>=◌, Job, Finished, admitted, begun, bad_cut, case_limit, concluded, demand, finished, job_outcome, outcome, resumed, run_from, run_job, spelled, uncut, vtk_of, written}
 use Rattle.lbm_flow.specs.Laws.{IsOnTheWay, ResumeLaw, ResumedRequest, SaveLaw}
 use Rattle.lbm_flow.proofs.Running.{run-step}
 use Rattle.lbm_flow.proofs.Stepped.{first_is_state}
@@ -106,12 +108,13 @@ pub resume-law : ResumeLaw
 unfolding job_outcome admitted
 resume-law job files name few way =
     let case = way.case in
-    let kept = can_be_kept case way.valid way.step way.state way.is_reached job.bytes (omega (arith, few, way.ahead)) in
-    let state = (reached_state case way.valid way.step way.state way.is_reached).directions in
+    let valid = spells-cases job.bytes case way.spelled in
+    let kept = can_be_kept case valid way.step way.state way.is_reached job.bytes (omega (arith, few, way.ahead)) in
+    let state = (reached_state case valid way.step way.state way.is_reached).directions in
     let from : resumed (record job { resume = Some name }) case (content files name) ≡ Ok (record { state = way.state; time = way.step }) =
     resumed-at (record job { resume = Some name }) case way.step way.state (content files name) state way.ahead
     (of_either (sha256 job.bytes) case way.step way.state kept (content files name) way.kept) in
-    let ends = run-from_there case way.valid way.step way.state way.is_reached job.steps way.ahead in
+    let ends = run-from_there case valid way.step way.state way.is_reached job.steps way.ahead in
     rw way.spelled
     (same_refusal (uncut (bad_cut case.torus job.cut)) case
     (λ c. begun (record job { resume = Some name }) files c >>= λ begin. concluded job c (run_from c job.steps begin))
@@ -159,10 +162,27 @@ left_of job case files left spelled_so e =
     let same : case ≡ a.0 = ok_is case a.0 b.2 in
     left_by job case (run_from case job.steps (record { state = first case; time = 0 })) left (ap ends same ∙ a.2)
 
+-- a run that leaves something has a case
+spelled-ok : (reading : Result FlowCase CaseFault) (case : FlowCase) → spelled reading ≡ Ok case → reading ≡ Ok case
+spelled-ok (Ok x) case e = cc
+spelled-ok (Err fault) case e = absurd cc
+
+case_of_left : (job : Job) (files : Files) (left : Finished) → job_outcome job files ≡ Ok left → (case : FlowCase) × (case_of job.bytes ≡ Ok case)
+unfolding job_outcome admitted
+case_of_left job files left e =
+    let whole : (c : FlowCase) → Result FlowCase End = λ c. uncut (bad_cut c.torus job.cut) >>= λ _. Ok c in
+    let ends : (c : FlowCase) → Result Finished End = λ c. begun job files c >>= λ begin. concluded job c (run_from c job.steps begin) in
+    let a = passed (spelled (case_of job.bytes) >>= whole) ends left e in
+    let b = passed (spelled (case_of job.bytes)) whole a.0 a.1 in
+    (b.0, spelled-ok (case_of job.bytes) b.0 b.1)
+
 pub save-law : SaveLaw
-save-law early late case files name left same_case ahead few spelled_so valid e =
+save-law early late files name left same_case ahead few e =
     let saving = record early { resume = None; save = Some name } in
-    let l = left_of saving case files left (ap case_of same_case ∙ spelled_so) e in
+    let of_left = case_of_left saving files left e in
+    let case = of_left.0 in
+    let spelled_so = ap case_of (sym same_case) ∙ of_left.1 in
+    let l = left_of saving case files left of_left.1 e in
     let all : early.steps - 0 ≡ early.steps = omega arith in
     let now = written left.files files in
     let file = ckpt (sha256 early.bytes) early.steps case.torus l.0 in
@@ -173,7 +193,6 @@ save-law early late case files name left same_case ahead few spelled_so valid e 
     let way : IsOnTheWay late.bytes late.steps (content now name) = record {
       case = case;
       spelled = spelled_so;
-      valid = valid;
       step = early.steps;
       ahead = ahead;
       state = l.0;

@@ -1,12 +1,11 @@
 -- A file that is written, by what the store says of it.
-use Rattle.std.proofs.Common.{◌≡◌, ◌≢◌, ◌∙◌, ℕ, List, [], ◌∷◌, Some, Result, Ok, Err, inr, ap, refl, sym, subst}
+use Rattle.std.proofs.Common.{◌≡◌, ◌≢◌, ◌∙◌, ℕ, List, [], ◌∷◌, Some, Result, Ok, Err, inr, subst}
 use Rattle.lbm_space.specs.Torus.{Torus}
 use Rattle.lbm_model.specs.State.{FlowState}
 use Rattle.lbm_ckpt.specs.Ckpt.{ckpt, checkpoint, head}
 use Rattle.lbm_store.specs.declared.outside.IoEnd.{IoEnd}
-use Rattle.lbm_store.specs.Outside.{Files, Counts, StoreState, Rose, SameBeside, with}
+use Rattle.lbm_store.specs.Outside.{Files, Counts, StoreState, Rose, with}
 use Rattle.lbm_store.specs.Sinks.{WritesFile}
-use Rattle.lbm_store.proofs.Files.{with-is, with-with}
 use Rattle.lbm_store.proofs.WholeFiles.{told-whole, told-front}
 use Rattle.lbm_flow.specs.declared.answer.File.TheVariants.{CaseFile, Checkpoint, Out, Save}
 use Rattle.lbm_flow.specs.declared.answer.End.{End}
@@ -29,12 +28,6 @@ module _ (before after : StoreState) (file : Written) where
   saved-front e wrote = λ files told.
       let t = told-front before.files after.files file.name file.bytes files told wrote.others wrote.err in
       (t.0, t.1, record { front = t.2; others = t.3 })
-
--- counts that are the same at one name and beside it
-pub same-counts : (before after : Counts) (name : List ℕ) → after name ≡ before name → SameBeside name before after → after ≡ before
-same-counts before after name kept others =
-    sym (with-is after name (after name) refl) ∙ sym (with-with after name 0 (after name)) ∙ ap (λ f. with f name (after name)) others
-    ∙ with-with before name 0 (after name) ∙ with-is before name (after name) (sym kept)
 
 -- the second file, behind a first one that was written whole
 module _ (out save : Written) (before between after : StoreState)

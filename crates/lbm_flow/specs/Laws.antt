@@ -2,7 +2,7 @@
 use Rattle.std.specs.Prelude.{◌≡◌, ◌⊎◌, ℕ, ◌≤◌, List, Some, None, Ok}
 use Rattle.sha2.specs.Sha256.{sha256}
 use Rattle.lbm_store.specs.Outside.{Files, content}
-use Rattle.lbm_model.specs.Case.{FlowCase, IsCase}
+use Rattle.lbm_model.specs.Case.{FlowCase}
 use Rattle.lbm_model.specs.State.{FlowState}
 use Rattle.lbm_model.specs.Flow.{first, reached, run as flow_run}
 use Rattle.lbm_case.specs.CaseOf.{case_of}
@@ -15,7 +15,6 @@ use Rattle.lbm_flow.specs.Outcome.{Finished, Job, job_outcome, outcome, written}
 pub record IsOnTheWay (case_bytes : List ℕ) (last : ℕ) (bytes : List ℕ) : Type 0 where
   pub case : FlowCase
   pub spelled : case_of case_bytes ≡ Ok case
-  pub valid : IsCase case
   pub step : ℕ
   pub ahead : step ≤ last
   pub state : FlowState
@@ -35,8 +34,7 @@ ResumedRequest = (r : Run) (files : Files) (name : List ℕ) → r.steps ≤ 100
 -- A run that has saved its last state leaves files from which a run of the same case to that step or a later one may go
 -- on: it comes to what the whole run comes to.
 abbrev pub SaveLaw : Type 0
-SaveLaw = (early late : Job) (case : FlowCase) (files : Files) (name : List ℕ) (left : Finished)
+SaveLaw = (early late : Job) (files : Files) (name : List ℕ) (left : Finished)
     → early.bytes ≡ late.bytes → early.steps ≤ late.steps → late.steps ≤ 1000000
-    → case_of late.bytes ≡ Ok case → IsCase case
     → job_outcome (record early { resume = None; save = Some name }) files ≡ Ok left
     → job_outcome (record late { resume = Some name }) (written left.files files) ≡ job_outcome (record late { resume = None }) files

@@ -1,8 +1,10 @@
 // Calls of the store and the sink that fail, by their numbers, and what they leave in the files.
 use crate::checkpoint_tests::old_checkpoint;
-use crate::tests::{UNEVEN, answer_into, channel, compare, store_with};
-use crate::{End, File};
-use lbm_store::{MapStore, VecSink};
+use crate::tests::{UNEVEN, answer_into, channel, compare, store_with, words_of};
+use crate::{End, File, run_in_memory};
+use lbm_case::{CaseFault, Key};
+use lbm_model::NoGate;
+use lbm_store::{MapStore, SureSink, SureStore, VecSink};
 use std::alloc::Global;
 use std::test::Fail;
 
@@ -109,5 +111,26 @@ fn a_fault_of_the_save_leaves_out_whole(rt: HostRuntime) -> Result<(), Fail> {
     let end = answer_into(&rt, &mut store, &mut sink, RESUMES)?;
     assert_eq!(rt; end, End::SinkFault);
     assert_eq!(rt; (store.bytes("p"), store.bytes("q")), (p, q));
+    Ok(())
+}
+
+// Over files that never fail, a case that is not there has no bytes.
+#[test]
+fn files_that_never_fail_give_the_answer_of_their_bytes(rt: HostRuntime) -> Result<(), Fail> {
+    let alloc = rt.alloc();
+    let mut store = SureStore::new(alloc);
+    let mut sink = SureSink::new(alloc);
+    let words = words_of(alloc, "run c 3 o")?;
+    let end = run_in_memory(&rt, alloc, alloc, &words, &mut store, &mut sink, &NoGate);
+    assert_eq!(rt; end, End::Case(CaseFault::MissingKey(Key::Set)));
+    assert!(rt; store.bytes("o").is_none());
+    store.put("c", UNEVEN.as_bytes())?;
+    let end = run_in_memory(&rt, alloc, alloc, &words, &mut store, &mut sink, &NoGate);
+    assert_eq!(rt; end, End::Done);
+    assert_eq!(rt; store.bytes("o").ok_or("no file")?.len(), 231);
+    assert_eq!(rt;
+        sink.bytes(),
+        b"refused: missing key set\nstep 3 mass 1806336 momentum 0 0 0\n".as_slice()
+    );
     Ok(())
 }

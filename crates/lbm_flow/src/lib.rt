@@ -6,6 +6,7 @@ mod begin;
 mod files;
 mod finish;
 mod generated;
+mod in_memory;
 mod job;
 mod lattice;
 pub mod laws;
@@ -22,6 +23,7 @@ mod top;
 
 pub use answer::{End, File};
 pub use generated::gen_case;
+pub use in_memory::run_in_memory;
 pub use lattice::Lattice;
 pub use measures::moments;
 pub use report::{CheckReport, Report, RunReport};

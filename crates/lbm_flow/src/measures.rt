@@ -10,13 +10,15 @@ ghost use Rattle.lbm_flow.specs.Reports.{printed_moment, printed_moments, IsSmal
 use lbm_cell::{Moment, Pops, moment};
 use lbm_model::{Case, SetKind, State};
 use lbm_space::{D2Q9, D3Q19, Memory, VelocitySet};
+use rayon::prelude::*;
 use std::alloc::{AllocError, Global};
 use std::marker::Sync;
 use std::thread::Threads;
 
-/// One moment per cell in order, in lattice units; a solid cell's are zeros. The state is one of the case.
+/// One moment per cell in order, in lattice units; a solid cell's are zeros. The state is one of the case. The cells are
+/// divided among as many threads as there are processors.
 pub fn moments<R: Threads + Sync>(
-    _rt: &R,
+    rt: &R,
     alloc: Global,
     case: &Case,
     state: &State,
@@ -26,12 +28,13 @@ pub fn moments<R: Threads + Sync>(
     ensures small { IfOk result (λ moments. All IsSmallMoment moments.items) }
 {
     match case.set() {
-        SetKind::D2Q9 => Ok(moments_by::<D2Q9>(alloc, case, state.pops())?),
-        SetKind::D3Q19 => Ok(moments_by::<D3Q19>(alloc, case, state.pops())?),
+        SetKind::D2Q9 => Ok(moments_by::<D2Q9, R>(rt, alloc, case, state.pops())?),
+        SetKind::D3Q19 => Ok(moments_by::<D3Q19, R>(rt, alloc, case, state.pops())?),
     }
 }
 
-fn moments_by<V: VelocitySet>(
+fn moments_by<V: VelocitySet + Sync, R: Threads + Sync>(
+    rt: &R,
     alloc: Global,
     case: &Case,
     pops: &[i32],
@@ -41,12 +44,18 @@ fn moments_by<V: VelocitySet>(
     ensures moments { IfOk result (λ moments. moments.items ≡ printed_moments case.now (flow_state V.stencil.directions pops.now)) }
     ensures small { IfOk result (λ moments. All IsSmallMoment moments.items) }
 {
-    let cells = case.space().cells();
-    let mut moments = Vec::with_capacity(alloc, cells as usize)?;
-    for cell in 0..cells {
-        moments.push(printed_moment::<V>(case, pops, cell))?;
-    }
-    Ok(moments)
+    (0..case.space().cells())
+        .into_par_iter()
+        .map(
+            |cell: u32| -> Moment
+                requires set { case.now.stencil ≡ V.stencil }
+                requires state { IsStateOf case.now (flow_state V.stencil.directions pops.now) }
+                requires cell { cell < cells case.now.torus }
+                ensures value { result ≡ printed_moment case.entry.now (flow_state V.stencil.directions pops.entry.now) cell }
+                ensures small { IsSmallMoment result }
+            { printed_moment::<V>(case, pops, cell) },
+        )
+        .collect(rt, alloc)
 }
 
 fn printed_moment<V: VelocitySet>(case: &Case, pops: &[i32], cell: u32) -> Moment

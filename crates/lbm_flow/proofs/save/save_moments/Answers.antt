@@ -1,6 +1,7 @@
 use Rattle.std.proofs.Common.{rules}
 use Rattle.lbm_vtk.proofs.Lines.{vtk-some}
-use Rattle.lbm_flow.proofs.SavedFiles.{saved-whole, saved-front, same-counts}
+use Rattle.lbm_flow.proofs.Reading.{same_counts}
+use Rattle.lbm_flow.proofs.SavedFiles.{saved-whole, saved-front}
 use Rattle.lbm_flow.proofs.save.save_moments.Goals as goal
 
 pub returns-in-Ok-clause-saved : goal.returns-in-Ok-clause-saved
@@ -13,4 +14,4 @@ pub returns-in-Err-Memory-clause-saved : goal.returns-in-Err-Memory-clause-saved
 returns-in-Err-Memory-clause-saved g c = saved-front _ _ _ _ c.in-Err-Memory.ensures
 
 pub returns-in-Ok-clause-write_faults : goal.returns-in-Ok-clause-write_faults
-returns-in-Ok-clause-write_faults g c = same-counts _ _ c.args.name.now c.in-Ok.ensures.cause.kept c.in-Ok.ensures.other_faults
+returns-in-Ok-clause-write_faults g c = same_counts c.args.name.now _ _ c.in-Ok.ensures.other_faults c.in-Ok.ensures.cause.kept
