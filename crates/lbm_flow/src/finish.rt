@@ -15,6 +15,7 @@ use lbm_aa::Aa;
 use lbm_cell::Moment;
 use lbm_model::{Case, Gate, Pattern, SetKind, State};
 use lbm_space::{Cutting, D2Q9, D3Q19, Memory, Space, VelocitySet};
+use lbm_swap::Swap;
 use lbm_two::Two;
 use lbm_words::PatternKind;
 use std::alloc::{Allocator, Global};
@@ -95,6 +96,7 @@ fn start<V: VelocitySet, A: Allocator + Copy>(
     let Beginning { state, time } = begin;
     match pattern {
         PatternKind::Two => Ok(Lattice::Two(Two::start(heap, case, &state, time, cut)?)),
+        PatternKind::Swap => Ok(Lattice::Swap(Swap::start(heap, case, &state, time, cut)?)),
         _ => Ok(Lattice::Aa(Aa::start(heap, case, &state, time, cut)?)),
     }
 }

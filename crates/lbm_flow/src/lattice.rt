@@ -6,6 +6,7 @@ ghost use Rattle.lbm_flow.specs.Lattices.{standing_of};
 use lbm_aa::Aa;
 use lbm_model::{Case, Gate, Pattern, StepEnd};
 use lbm_space::VelocitySet;
+use lbm_swap::Swap;
 use lbm_two::Two;
 use std::alloc::Allocator;
 use std::marker::Sync;
@@ -16,6 +17,8 @@ use std::thread::Threads;
 pub enum Lattice<V: VelocitySet, A: Allocator> {
     /// In two lattices.
     Two(Two<V, A>),
+    /// In one lattice, by exchanges.
+    Swap(Swap<V, A>),
     /// In one lattice, in place.
     Aa(Aa<V, A>),
 }
@@ -29,6 +32,7 @@ impl<V: VelocitySet + Sync, A: Allocator> Lattice<V, A> {
     {
         match self {
             Lattice::Two(two) => two.step(rt, gate),
+            Lattice::Swap(swap) => swap.step(rt, gate),
             Lattice::Aa(aa) => aa.step(rt, gate),
         }
     }
@@ -44,6 +48,7 @@ impl<V: VelocitySet, A: Allocator> Pattern for Lattice<V, A> {
     fn case(&self) -> &Case {
         match self {
             Lattice::Two(two) => two.case(),
+            Lattice::Swap(swap) => swap.case(),
             Lattice::Aa(aa) => aa.case(),
         }
     }
@@ -51,6 +56,7 @@ impl<V: VelocitySet, A: Allocator> Pattern for Lattice<V, A> {
     fn time(&self) -> u64 {
         match self {
             Lattice::Two(two) => two.time(),
+            Lattice::Swap(swap) => swap.time(),
             Lattice::Aa(aa) => aa.time(),
         }
     }
@@ -58,6 +64,7 @@ impl<V: VelocitySet, A: Allocator> Pattern for Lattice<V, A> {
     fn spent(&self) -> Option<u32> {
         match self {
             Lattice::Two(two) => two.spent(),
+            Lattice::Swap(swap) => swap.spent(),
             Lattice::Aa(aa) => aa.spent(),
         }
     }
@@ -65,6 +72,7 @@ impl<V: VelocitySet, A: Allocator> Pattern for Lattice<V, A> {
     fn get(&self, cell: u32, dir: u32) -> i64 {
         match self {
             Lattice::Two(two) => two.get(cell, dir),
+            Lattice::Swap(swap) => swap.get(cell, dir),
             Lattice::Aa(aa) => aa.get(cell, dir),
         }
     }
@@ -72,6 +80,7 @@ impl<V: VelocitySet, A: Allocator> Pattern for Lattice<V, A> {
     fn check(&self) -> Option<u32> {
         match self {
             Lattice::Two(two) => two.check(),
+            Lattice::Swap(swap) => swap.check(),
             Lattice::Aa(aa) => aa.check(),
         }
     }

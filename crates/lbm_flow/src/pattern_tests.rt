@@ -179,6 +179,7 @@ fn one_region_fits_where_two_do_not(rt: HostRuntime) -> Result<(), Fail> {
     let case = text_of(alloc, HEAD, &[(64, FLUID_ROW)])?;
     for (pattern, end, line) in [
         ("aa", End::Done, "step 3 mass 3623878656 momentum 0 0 0\n"),
+        ("swap", End::Done, "step 3 mass 3623878656 momentum 0 0 0\n"),
         ("two", End::Memory, "out of memory\n"),
     ] {
         let heap = LocalHeap::new(alloc, 400_000)?;

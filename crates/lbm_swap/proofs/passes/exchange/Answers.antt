@@ -1,0 +1,73 @@
+use Rattle.std.proofs.Common.{◌≡◌, ℕ, ◌<◌, ◌*◌, List, length, slice_index, ℤ, Option, None, sym, ap, ◌∙◌, subst, arith}
+use Rattle.lbm_space.specs.Stencil.{Stencil, opposite}
+use Rattle.lbm_space.specs.Torus.{Torus, rows as row_count}
+use Rattle.lbm_space.specs.Cuttings.{slabs_of, rows_of, IsCutting}
+use Rattle.lbm_model.specs.Case.{FlowCase, IsCase}
+use Rattle.lbm_model.specs.Layout.{swap_layout}
+use Rattle.lbm_arrays.specs.Arrays.{Arrays, IsRegion, held}
+use Rattle.lbm_arrays.specs.LentRanges.{IsLent, lent, slab_rows, AreInside, AreLent, IsForked}
+use Rattle.lbm_arrays.specs.declared.steps.Step.TheVariants.{Exchange}
+use Rattle.lbm_arrays.specs.Steps.{step_shifts}
+use Rattle.lbm_sweep.specs.Blocks.{IsTable}
+use Rattle.lbm_sweep.specs.Lattices.{IsLaidOut}
+use Rattle.lbm_sweep.proofs.Lattices.{laid_again}
+use Rattle.lbm_swap.specs.Exchange.{IsReady, IsExchangedIn, AreExchanged}
+use Rattle.lbm_swap.proofs.Lent.{whole_region, count_shifts, table_in, shifts_are, shifts_inside, shifts_inside_region}
+use Rattle.lbm_swap.proofs.Regions.{slab_ready, region_exchanged}
+use Rattle.lbm_swap.proofs.passes.exchange.Goals as goal
+
+module _ (case : FlowCase) (s : Stencil) (allowed : IsCase case) (set : case.stencil ≡ s) (region : Arrays) (laid : IsLaidOut case swap_layout region) (valid : IsRegion region)
+    (t : Torus) (moved : List ℤ) (space : t ≡ case.torus) (are_table : moved ≡ step_shifts t s Exchange 1) (inside : AreInside t 2 moved)
+    (ps given : List ℕ) (same : given ≡ ps) (is_table : IsTable s.directions ps) (are_opposite : (i : ℕ) → i < s.directions → slice_index ps i ≡ opposite s i)
+    (bounds : List ℕ) (cutting : IsCutting bounds) (fits : rows_of bounds ≡ row_count case.torus) where
+  opposites : (i : ℕ) → i < case.stencil.directions → slice_index ps i ≡ opposite case.stencil i
+  opposites = subst (λ (w : Stencil). (i : ℕ) → i < w.directions → slice_index ps i ≡ opposite w i) (sym set) are_opposite
+
+  table : IsTable case.stencil.directions ps
+  table = table_in case Exchange s set ps is_table
+
+  are : moved ≡ step_shifts case.torus case.stencil Exchange 1
+  are = shifts_are case Exchange s set t moved space are_table
+
+  ready : (j : ℕ) → j < slabs_of bounds → IsReady t given (slab_rows bounds j) (lent region.space region.margin moved (slab_rows bounds j) region.slots)
+  ready j known =
+      subst (λ (w : Torus × List ℕ × Torus × ℕ × List ℤ). IsReady w.0 w.1 (slab_rows bounds j) (lent w.2 w.3 w.4 (slab_rows bounds j) region.slots)) (λ i. (sym space i, sym same i, sym laid.space i, sym laid.margin i, sym are i))
+      (slab_ready case allowed ps table opposites (shifts_inside case Exchange s set t moved space are_table inside) (count_shifts case Exchange) bounds cutting fits region.slots (whole_region case region valid laid) j known)
+
+  exchanged : (new : Arrays) (answer : Option ℕ) → new ≡ record region { slots = new.slots } → IsRegion new → AreLent region.space region.margin moved bounds
+      → IsForked (λ piece rows old result now. (result ≡ None) × IsExchangedIn t (length given) given rows (rows.0 * t.nx) (rows.1 * t.nx) old now) region.space region.margin moved bounds region.slots new.slots answer
+      → ((n : ℕ) → ((k : ℕ) → k < length moved → IsLent region.space region.margin moved k 0 (row_count region.space) n → ⊥) → held new.slots n ≡ held region.slots n)
+      → AreExchanged case region.slots new.slots
+  exchanged new answer still valid' lents did others =
+      let many : length given ≡ case.stencil.directions = ap length same ∙ table.count in
+      region_exchanged case allowed ps table opposites (shifts_inside case Exchange s set t moved space are_table inside) (count_shifts case Exchange) bounds cutting fits region.slots new.slots answer
+      (whole_region case region valid laid) (whole_region case new valid' (laid_again case swap_layout region new still laid))
+      (subst (λ (w : Torus × ℕ × List ℤ). AreLent w.0 w.1 w.2 bounds) (λ i. (laid.space i, laid.margin i, are i)) lents)
+      (subst (λ (w : (Torus × ℕ × List ℕ) × Torus × ℕ × List ℤ). IsForked (λ piece rows old result now. (result ≡ None) × IsExchangedIn w.0.0 w.0.1 w.0.2 rows (rows.0 * w.0.0.nx) (rows.1 * w.0.0.nx) old now) w.1 w.2 w.3 bounds region.slots new.slots answer)
+      (λ i. ((space i, many i, same i), laid.space i, laid.margin i, are i)) did)
+      (subst (λ (w : Torus × ℕ × List ℤ). (n : ℕ) → ((k : ℕ) → k < length w.2 → IsLent w.0 w.1 w.2 k 0 (row_count w.0) n → ⊥) → held new.slots n ≡ held region.slots n) (λ i. (laid.space i, laid.margin i, are i)) others)
+
+pub fork-requires-clause-count : goal.fork-requires-clause-count
+fork-requires-clause-count g c κs within =
+    ap length (shifts_are c.args.case.now Exchange g.V.VelocitySet.stencil c.requires.set c.space.result.now c.shifts-moved.result.items c.space.ensures.value c.shifts-moved.ensures.table)
+    ∙ count_shifts c.args.case.now Exchange ∙ sym c.requires.laid.count
+
+pub fork-requires-clause-inside : goal.fork-requires-clause-inside
+fork-requires-clause-inside g c κs within =
+    shifts_inside_region c.args.case.now Exchange g.V.VelocitySet.stencil c.requires.set c.space.result.now c.shifts-moved.result.items c.space.ensures.value c.shifts-moved.ensures.table
+    c.args.region.now c.requires.laid (c.shifts-moved.ensures.inside 2 (omega arith, omega arith))
+
+pub fork-requires-clause-ready : goal.fork-requires-clause-ready
+fork-requires-clause-ready g c κs within =
+    ready c.args.case.now g.V.VelocitySet.stencil c.requires.valid c.requires.set c.args.region.now c.requires.laid c.slots-slots.ensures.valid
+    c.space.result.now c.shifts-moved.result.items c.space.ensures.value c.shifts-moved.ensures.table (c.shifts-moved.ensures.inside 2 (omega arith, omega arith))
+    c.opposite_directions-partners.result.items c.as_slice.result.now c.as_slice.ensures.value c.opposite_directions-partners.ensures.table c.opposite_directions-partners.ensures.opposite
+    c.args.cut.now c.slabs-slabs.ensures.cutting c.requires.cutting
+
+pub returns-clause-exchanged : goal.returns-clause-exchanged
+returns-clause-exchanged g c =
+    exchanged c.args.case.now g.V.VelocitySet.stencil c.requires.valid c.requires.set c.args.region.now c.requires.laid c.slots-slots.ensures.valid
+    c.space.result.now c.shifts-moved.result.items c.space.ensures.value c.shifts-moved.ensures.table (c.shifts-moved.ensures.inside 2 (omega arith, omega arith))
+    c.opposite_directions-partners.result.items c.as_slice.result.now c.as_slice.ensures.value c.opposite_directions-partners.ensures.table c.opposite_directions-partners.ensures.opposite
+    c.args.cut.now c.slabs-slabs.ensures.cutting c.requires.cutting
+    c.fork.new.region c.fork.result c.fork.ensures.same c.fork.ensures.valid c.fork.ensures.ranges c.fork.ensures.did c.fork.ensures.others
