@@ -1,0 +1,15 @@
+mod Agreement
+mod Masks
+mod Operators
+mod Guess
+mod Quotients
+mod Expansion
+mod Floors
+mod PairFormula
+mod PairBounds
+mod PairLanes
+mod PairCells
+mod Ready
+mod Collided
+mod Assembled
+mod Paired

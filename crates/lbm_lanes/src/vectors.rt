@@ -1,0 +1,73 @@
+//! Eight numbers in step. No sum and no product reaches 2^62.
+
+ghost use Rattle.std.specs.Prelude.{◌≡◌, ◌<◌, ◌≤◌, ◌^◌, ◌*◌, ◌+◌, ◌-◌, ◌/◌, ℕ, length, slice_index, if◌then◌else◌, nat_lt};
+
+use std::simd::prelude::*;
+
+#[inline]
+pub(crate) fn sum(a: u64x8, b: u64x8) -> u64x8
+    requires { (l : ℕ) → l < 8 → slice_index a l + slice_index b l < 2 ^ 62 }
+    ensures { (l : ℕ) → l < 8 → slice_index result l ≡ slice_index a l + slice_index b l }
+{
+    a.strict_add(b)
+}
+
+#[inline]
+pub(crate) fn difference(a: u64x8, b: u64x8) -> u64x8
+    requires { (l : ℕ) → l < 8 → slice_index b l ≤ slice_index a l }
+    ensures { (l : ℕ) → l < 8 → slice_index result l ≡ slice_index a l - slice_index b l }
+{
+    a.strict_sub(b)
+}
+
+// The same numbers, which fit 32 bits, so that a product of two takes one instruction.
+#[inline]
+fn narrow(a: u64x8) -> u64x8
+    requires { (l : ℕ) → l < 8 → slice_index a l < 2 ^ 32 }
+    ensures value { (l : ℕ) → l < 8 → slice_index result l ≡ slice_index a l }
+    ensures eight { length result ≡ 8 }
+{
+    a.cast::<u32>().cast::<u64>()
+}
+
+#[inline]
+pub(crate) fn product(a: u64x8, b: u64x8) -> u64x8
+    requires first { (l : ℕ) → l < 8 → slice_index a l < 2 ^ 32 }
+    requires second { (l : ℕ) → l < 8 → slice_index b l < 2 ^ 32 }
+    requires room { (l : ℕ) → l < 8 → slice_index a l * slice_index b l < 2 ^ 62 }
+    ensures { (l : ℕ) → l < 8 → slice_index result l ≡ slice_index a l * slice_index b l }
+{
+    narrow(a).strict_mul(narrow(b))
+}
+
+// k a
+#[inline]
+pub(crate) fn multiple(k: u64, a: u64x8) -> u64x8
+    requires { (l : ℕ) → l < 8 → k * slice_index a l < 2 ^ 62 }
+    ensures { (l : ℕ) → l < 8 → slice_index result l ≡ k * slice_index a l }
+{
+    u64x8::splat(k).strict_mul(a)
+}
+
+#[inline]
+pub(crate) fn cut(a: u64x8, shift: u32) -> u64x8
+    requires { shift < 64 }
+    ensures { (l : ℕ) → l < 8 → slice_index result l ≡ slice_index a l / 2 ^ shift }
+{
+    a >> u64x8::splat(shift as u64)
+}
+
+// The first where the numbers of `low` are below those of `high`, and the second elsewhere.
+#[inline]
+pub(crate) fn chosen(low: u64x8, high: u64x8, first: u64x8, second: u64x8) -> u64x8
+    ensures { (l : ℕ) → l < 8 → slice_index result l ≡ (if nat_lt (slice_index low l) (slice_index high l) then slice_index first l else slice_index second l) }
+{
+    low.simd_lt(high).select(first, second)
+}
+
+#[inline]
+pub(crate) fn all(x: u64) -> u64x8
+    ensures { (l : ℕ) → l < 8 → slice_index result l ≡ x }
+{
+    u64x8::splat(x)
+}
