@@ -1,31 +1,29 @@
 -- How the lattice that works in place goes from the slots of one time to those of the next.
-use Rattle.std.proofs.Common.{◌≡◌, ℕ, ◌+◌, ◌*◌, ◌/◌, ◌%◌, ◌^◌, ◌<◌, ◌≤◌, Bool, true, false, List, ℤ, pos, negsuc, unsigned_abs, FitsSigned, slice_index, refl, ap, sym, subst, ◌∙◌, inl, inr, arith}
-use Rattle.std.specs.Prelude.{Option, None, if◌then◌else◌}
-use Rattle.std.specs.Int.{w32}
+use Rattle.std.proofs.Common.{◌≡◌, ℕ, ◌+◌, ◌*◌, ◌/◌, ◌%◌, ◌<◌, List, ℤ, slice_index, refl, ap, sym, subst, ◌∙◌, inl, inr, arith}
+use Rattle.std.specs.Prelude.{Option, None}
 use Rattle.std.proofs.lemmas.Int.{ints}
 use Rattle.std.proofs.lemmas.Nat.{mod-mul-add, mod_below}
 use Rattle.std.proofs.lemmas.Bool.{cases_lt, cases_eq}
 use Rattle.std.proofs.Math.Nat.{mod-add-div}
 use Rattle.lbm_space.specs.Stencil.{Stencil, velocity, opposite}
-use Rattle.lbm_space.specs.Torus.{Torus, cells, padded}
+use Rattle.lbm_space.specs.Torus.{cells}
 use Rattle.lbm_space.specs.Padded.{padded_index, place_ahead}
 use Rattle.lbm_space.proofs.Offsets.{place_ahead_is, place_ahead_below}
-use Rattle.lbm_model.specs.State.{FlowState, population}
-use Rattle.lbm_model.specs.Case.{FlowCase, IsCase, is_solid, source, target}
+use Rattle.lbm_model.specs.Case.{FlowCase, IsCase, source, target}
 use Rattle.lbm_model.specs.Layout.{population_in, state_in, aa_layout}
 use Rattle.lbm_model.specs.declared.layout.Layout.{Layout}
-use Rattle.lbm_model.specs.Small.{size_limit, IsSmall}
+use Rattle.lbm_model.specs.Small.{IsSmall}
 use Rattle.lbm_model.specs.Standing.{stopped_at, stepped}
 use Rattle.lbm_model.proofs.Neighbours.{source-target}
 use Rattle.lbm_model.proofs.SmallStates.{small-next}
 use Rattle.lbm_model.proofs.States.{population-state_by}
 use Rattle.lbm_arrays.specs.Arrays.{Arrays, held}
-use Rattle.lbm_arrays.specs.Pads.{place_slot, stand}
+use Rattle.lbm_arrays.specs.Pads.{place_slot, stand, AreLoaded, AreStored}
 use Rattle.lbm_arrays.specs.declared.steps.Step.TheVariants.{InPlace, Ahead}
 use Rattle.lbm_arrays.proofs.Padding.{stand-ahead}
 use Rattle.lbm_sweep.specs.Steps.{IsTaken, IsSent, IsStep}
 use Rattle.lbm_sweep.specs.Lattices.{Lattice, IsKept, standing_by}
-use Rattle.lbm_aa.specs.Sweeps.{slot_in, taken, sent_to, AreSmall}
+use Rattle.lbm_aa.specs.Sweeps.{slot_in, taken, sent_to}
 
 -- the tables of directions
 abbrev pub IsSame : Stencil → List ℕ → Type 0
@@ -33,14 +31,6 @@ IsSame v table = (i : ℕ) → i < v.directions → slice_index table i ≡ i
 
 abbrev pub AreOpposite : Stencil → List ℕ → Type 0
 AreOpposite v table = (i : ℕ) → i < v.directions → slice_index table i ≡ opposite v i
-
--- what copying between the pads and the interior gives, as it is read and written here
-abbrev pub ArePadsLoaded : Torus → ℕ → List ℤ → List ℤ → Type 0
-ArePadsLoaded t q old new = (k p : ℕ) → k < q → p < padded t → held new (place_slot t 2 k 1 p) ≡ held old (place_slot t 2 k 1 (stand t p))
-
-abbrev pub ArePadsStored : Torus → Stencil → List ℤ → List ℤ → Type 0
-ArePadsStored t v old new = (k x : ℕ) → k < v.directions → x < cells t
-    → held new (place_slot t 2 k 1 (stand t (place_ahead t (velocity v k) x))) ≡ held old (place_slot t 2 k 1 (place_ahead t (velocity v k) x))
 
 module _ (case : FlowCase) (allowed : IsCase case) where
   -- the slots that a cell touches: its own, and those ahead of it
@@ -66,7 +56,7 @@ module _ (case : FlowCase) (allowed : IsCase case) where
       ∙ ap (held new) (sym (slot_own (opposite case.stencil i) x)) ∙ ap (λ k. held new (slot_in case InPlace k x)) (sym (turned i known))
 
   -- At odd times it takes them, once the pads are loaded, from the arrays of the opposite directions: what is ahead there is behind.
-  pub taken_odd : (reads : List ℕ) (old loaded : List ℤ) → AreOpposite case.stencil reads → ArePadsLoaded case.torus case.stencil.directions old loaded
+  pub taken_odd : (reads : List ℕ) (old loaded : List ℤ) → AreOpposite case.stencil reads → AreLoaded case.torus case.stencil.directions 2 1 old loaded
       → IsTaken case (state_in case (aa_layout 1) old) (taken case Ahead reads loaded)
   taken_odd reads old loaded turned loads x i here known =
       let o = opposite case.stencil i in let known_o = allowed.set.opposite_exists i known in
@@ -77,29 +67,10 @@ module _ (case : FlowCase) (allowed : IsCase case) where
       ∙ ap (λ p. held old (place_slot case.torus 2 o 1 p)) behind ∙ sym (population-state_by case (population_in case (aa_layout 1) old) x i here known)
 
   -- It sends into those ahead: once the pads are stored, the cell ahead has it in its own slots.
-  pub sent_odd : (writes : List ℕ) (swept stored : List ℤ) → IsSame case.stencil writes → ArePadsStored case.torus case.stencil swept stored → IsSent case (aa_layout 0) (sent_to case Ahead writes) (held swept) stored
+  pub sent_odd : (writes : List ℕ) (swept stored : List ℤ) → IsSame case.stencil writes → AreStored case.torus case.stencil 2 1 swept stored → IsSent case (aa_layout 0) (sent_to case Ahead writes) (held swept) stored
   sent_odd writes swept stored same stores x i here known =
       ap (λ p. held stored (place_slot case.torus 2 i 1 p)) (sym (stand-target i x known here)) ∙ stores i x known here
       ∙ ap (held swept) (sym (slot_ahead i x known here)) ∙ ap (λ k. held swept (slot_in case Ahead k x)) (sym (same i known))
-
--- what is taken of a small state is small
-pub small_taken : (case : FlowCase) (s : FlowState) (f : ℕ → ℕ → ℤ) → IsTaken case s f → IsSmall case s → AreSmall case f
-small_taken case s f is small x i here known = subst (λ (z : ℤ). unsigned_abs z ≤ size_limit case x) (sym (is x i here known)) (small.within x i here known)
-
--- and fits 32 signed bits
-fits_narrow : (z : ℤ) → unsigned_abs z < 2 ^ 31 → FitsSigned w32 z
-fits_narrow (pos n) small = record { sfits = omega arith }
-fits_narrow (negsuc n) small = record { sfits = omega arith }
-
-limit_low : (case : FlowCase) (x n : ℕ) → n ≤ size_limit case x → n < 2 ^ 31
-limit_low case x n within = by_cases (is_solid case x) within
-  where
-    by_cases : (solid : Bool) → n ≤ (if solid then 2 ^ 28 else 2 ^ 28 + 2 ^ 15) → n < 2 ^ 31
-    by_cases true within = omega arith
-    by_cases false within = omega arith
-
-pub fits_small : (case : FlowCase) (s : FlowState) (x i : ℕ) → IsSmall case s → x < cells case.torus → i < case.stencil.directions → FitsSigned w32 (population s x i)
-fits_small case s x i small here known = fits_narrow (population s x i) (limit_low case x (unsigned_abs (population s x i)) (small.within x i here known))
 
 -- the layouts take turns
 pub aa_layout-even : (time : ℕ) → time % 2 ≡ 0 → (aa_layout time ≡ aa_layout 0) × (aa_layout (time + 1) ≡ aa_layout 1)

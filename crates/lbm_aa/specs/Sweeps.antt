@@ -1,10 +1,8 @@
 -- A sweep in place, over the slots of one lattice.
 --     step             how far it moves the ranges of the arrays
 --     reads, writes    for each direction, the array from which a cell takes its population and the one into which it puts what it sends
-use Rattle.std.specs.Prelude.{ℕ, ◌<◌, ◌≤◌, List, ℤ, unsigned_abs, slice_index}
-use Rattle.lbm_space.specs.Torus.{cells}
+use Rattle.std.specs.Prelude.{ℕ, List, ℤ, slice_index}
 use Rattle.lbm_model.specs.Case.{FlowCase}
-use Rattle.lbm_model.specs.Small.{size_limit}
 use Rattle.lbm_arrays.specs.Arrays.{held}
 use Rattle.lbm_arrays.specs.declared.steps.Step.{Step}
 use Rattle.lbm_arrays.specs.Steps.{touched}
@@ -20,7 +18,3 @@ taken case step reads slots x i = held slots (slot_in case step (slice_index rea
 -- where cell x puts what it sends in direction i
 abbrev pub sent_to : FlowCase → Step → (writes : List ℕ) → ℕ → ℕ → ℕ
 sent_to case step writes x i = slot_in case step (slice_index writes i) x
-
--- none of these populations is too large
-abbrev pub AreSmall : FlowCase → (ℕ → ℕ → ℤ) → Type 0
-AreSmall case f = (x i : ℕ) → x < cells case.torus → i < case.stencil.directions → unsigned_abs (f x i) ≤ size_limit case x

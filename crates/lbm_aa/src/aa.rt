@@ -13,8 +13,8 @@ ghost use Rattle.lbm_arrays.specs.Steps.{HasRoom};
 ghost use Rattle.lbm_sweep.specs.Blocks.{IsTable};
 ghost use Rattle.lbm_sweep.specs.First.{IsFirst};
 ghost use Rattle.lbm_sweep.specs.Steps.{IsStep, IsWritten};
-ghost use Rattle.lbm_sweep.specs.Lattices.{IsKept, IsLaidOut, standing_by};
-ghost use Rattle.lbm_aa.specs.Sweeps.{taken, sent_to, AreSmall};
+ghost use Rattle.lbm_sweep.specs.Lattices.{IsKept, IsLaidOut, standing_by, AreWithin};
+ghost use Rattle.lbm_aa.specs.Sweeps.{taken, sent_to};
 
 use lbm_arrays::{Region, Step, shifts};
 use lbm_model::{Case, Gate, Layout, Pattern, State, StepEnd};
@@ -111,10 +111,11 @@ impl<V: VelocitySet, A: Allocator> Aa<V, A> {
 
 impl<V: VelocitySet + Sync, A: Allocator> Aa<V, A> {
     /// Goes on to the next state where all cells are in limits, and else names the least cell that is not, or the one that
-    /// spent the pattern before. The gate is entered before each slab's work.
+    /// spent the pattern before. The gate is entered before each slab's work. No memory is wanted.
     pub fn step<R: Threads + Sync, G: Gate>(&mut self, rt: &R, gate: &G) -> Result<(), StepEnd>
         requires time { self.old.time < 1000000 }
-        ensures { StepGives false (standing_by aa_layout self.old) (standing_by aa_layout self.new) result }
+        ensures step { StepGives ⟦<Self as Pattern>⟧.WANTS_MEMORY (standing_by aa_layout self.old) (standing_by aa_layout self.new) result }
+        ensures no_memory { ⟦<Self as Pattern>⟧.WANTS_MEMORY ≡ false }
     {
         if let Some(cell) = self.spent {
             return Err(StepEnd::Range(cell));
@@ -229,7 +230,7 @@ fn sweep<V: VelocitySet + Sync, A: Allocator, R: Threads + Sync, G: Gate>(
     requires reads { IsTable V.stencil.directions way.now.reads.items }
     requires writes { IsTable V.stencil.directions way.now.writes.items }
     requires room { HasRoom case.now.torus V.stencil way.now.step 2 1 }
-    requires small { AreSmall case.now (taken case.now way.now.step way.now.reads.items region.old.slots) }
+    requires small { AreWithin case.now (taken case.now way.now.step way.now.reads.items region.old.slots) }
     ensures first { IsFirst (λ x. is_sound case.now x (taken case.now way.now.step way.now.reads.items region.old.slots x)) 0 (cells case.now.torus) result }
     ensures written { result ≡ None → IsWritten case.now (taken case.now way.now.step way.now.reads.items region.old.slots) (sent_to case.now way.now.step way.now.writes.items) (held region.new.slots) }
     ensures same { region.new ≡ record region.old { slots = region.new.slots } }

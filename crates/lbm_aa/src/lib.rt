@@ -9,6 +9,3 @@
 mod aa;
 
 pub use aa::Aa;
-
-#[cfg(test)]
-mod tests;

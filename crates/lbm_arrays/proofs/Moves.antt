@@ -1,7 +1,8 @@
 -- The shifts of a step: the ranges stay in their arrays, and what a cell touches or reads lies where it should.
-use Rattle.std.proofs.Common.{◌≡◌, ℕ, zero, suc, ◌+◌, ◌-◌, ◌*◌, ◌/◌, ◌<◌, ◌≤◌, List, length, ltb, ℤ, pos, ◌+ℤ◌, ◌-ℤ◌, ◌≤ℤ◌, unsigned_abs, subst, inl, inr, arith}
+use Rattle.std.proofs.Common.{◌≡◌, ℕ, zero, suc, ◌+◌, ◌-◌, ◌*◌, ◌/◌, ◌<◌, ◌≤◌, List, length, ltb, ℤ, pos, ◌+ℤ◌, ◌≤ℤ◌, unsigned_abs, subst, inl, inr, arith}
 use Rattle.std.proofs.lemmas.Bool.{cases_lt, cases_Bool}
 use Rattle.std.proofs.lemmas.Int.{ints, clamps}
+use Rattle.std.proofs.lemmas.Nat.{div_below}
 use Rattle.std.proofs.lemmas.List.FromFn.{length-map-range_with_len, get_or-map-range_with_len}
 use Rattle.lbm_space.specs.Stencil.{Stencil, IsVelocitySet, velocity, opposite}
 use Rattle.lbm_space.specs.Torus.{Torus, IsSpace, cells, rows, padded}
@@ -9,13 +10,14 @@ use Rattle.lbm_space.specs.Padded.{padded_index, offset, reach, row_start}
 use Rattle.lbm_space.specs.Cuttings.{slabs_of, first_row, end_row, rows_of, IsCutting}
 use Rattle.lbm_space.proofs.RowStarts.{row_start_rises, row_start_inside, cell_between}
 use Rattle.lbm_space.proofs.Shifts.{shifted_low, shifted_high}
-use Rattle.lbm_space.proofs.Offsets.{offset_most, offset_least, offset-opposite, moved_high, reach_taken}
+use Rattle.lbm_space.proofs.Offsets.{offset_most, offset_least, offset-opposite, reach_taken}
 use Rattle.lbm_space.proofs.Slabs.{end_known}
 use Rattle.lbm_arrays.specs.Arrays.{array_size, slot_at}
 use Rattle.lbm_arrays.specs.LentRanges.{shift, IsLent, AreInside}
 use Rattle.lbm_arrays.specs.declared.steps.Step.{Step}
 use Rattle.lbm_arrays.specs.declared.steps.Step.TheVariants.{InPlace, Exchange, Ahead, Rise, Fall}
-use Rattle.lbm_arrays.specs.Steps.{shift_of, step_shifts, HasRoom, touched, Strip, rising_strip, falling_strip, strip_size, strips_size, IsReadNear}
+use Rattle.lbm_arrays.specs.Steps.{shift_of, step_shifts, HasRoom, touched, Strip, rising_strip, falling_strip, strip_size, strips_size, place_behind, TouchesArrays, IsReadNear}
+use Rattle.lbm_arrays.proofs.Behind.{place_behind_is, place_behind_below}
 
 -- a place between the starts of two rows, moved with them, lies in the range
 pub lent_between : (t : Torus) (margin : ℕ) (shifts : List ℤ) (a b k x : ℕ) → pos 0 ≤ℤ (pos (row_start t a) +ℤ shift shifts k) → row_start t a ≤ x → x < row_start t b
@@ -24,6 +26,10 @@ lent_between t margin shifts a b k x start low high = (
   (let up : unsigned_abs (pos (row_start t a) +ℤ shift shifts k) ≤ unsigned_abs (pos x +ℤ shift shifts k) = omega (arith, ints, start) in omega arith),
   (let up : unsigned_abs (pos x +ℤ shift shifts k) < unsigned_abs (pos (row_start t b) +ℤ shift shifts k) = omega (arith, ints, start) in omega arith),
 )
+
+-- there is a shift for each direction
+pub length-shifts : (t : Torus) (v : Stencil) (step : Step) (base : ℕ) → length (step_shifts t v step base) ≡ v.directions
+length-shifts t v step base = length-map-range_with_len (λ k. pos base +ℤ shift_of t v step k) 0 v.directions
 
 module _ (t : Torus) (space : IsSpace t) (v : Stencil) (laws : IsVelocitySet v) (fits : v.dimension ≡ t.dimension) where
   -- the reach is no more than the place of the first cell, and the last row plus the reach stays by the box
@@ -67,15 +73,12 @@ module _ (t : Torus) (space : IsSpace t) (v : Stencil) (laws : IsVelocitySet v) 
   step_mild Fall margin base k room known = let end = row_start_inside t space (rows t) (omega arith) in record { low = omega (arith, ints); high = omega (arith, ints, room) }
 
   module _ (step : Step) (base : ℕ) where
-    length-shifts : length (step_shifts t v step base) ≡ v.directions
-    length-shifts = length-map-range_with_len (λ k. pos base +ℤ shift_of t v step k) 0 v.directions
-
     pub get-shifts : (k : ℕ) → k < v.directions → shift (step_shifts t v step base) k ≡ pos base +ℤ shift_of t v step k
     get-shifts k known = get_or-map-range_with_len (λ j. pos base +ℤ shift_of t v step j) 0 v.directions k k (pos 0) known (omega arith)
 
     pub shifts_inside : (margin : ℕ) → HasRoom t v step margin base → AreInside t margin (step_shifts t v step base)
     shifts_inside margin room k here =
-        let known : k < v.directions = subst (λ (n : ℕ). k < n) length-shifts here in
+        let known : k < v.directions = subst (λ (n : ℕ). k < n) (length-shifts t v step base) here in
         let mild = step_mild step margin base k room known in
         rw (get-shifts k known) (mild.low, mild.high)
 
@@ -84,6 +87,14 @@ module _ (t : Torus) (space : IsSpace t) (v : Stencil) (laws : IsVelocitySet v) 
     range_low margin a k room here known =
         let mild = step_mild step margin base k room known in let low = mild.low in let up = row_start_rises t space 0 a (omega arith) here in
         rw (get-shifts k known) (omega (arith, ints, low))
+
+    -- what a cell touches lies in its array
+    pub touches_arrays : (margin : ℕ) → HasRoom t v step margin base → TouchesArrays t v step margin base
+    touches_arrays margin room cell k here known =
+        let mild = step_mild step margin base k room known in let low = mild.low in let high = mild.high in
+        let row : cell / t.nx < rows t = div_below cell t.nx (rows t) space.some_x (omega arith) in
+        let between = cell_between t space 0 (rows t) cell (omega arith) here (omega arith) row in let after = between.0 in let before = between.1 in
+        (omega (arith, ints, low, after), omega (arith, ints, high, before))
 
     pub touched_lent : (margin a b cell k : ℕ) → HasRoom t v step margin base → b ≤ rows t → cell < cells t → a ≤ cell / t.nx → cell / t.nx < b → k < v.directions
         → IsLent t margin (step_shifts t v step base) k a b (touched t margin base v step k cell)
@@ -94,21 +105,14 @@ module _ (t : Torus) (space : IsSpace t) (v : Stencil) (laws : IsVelocitySet v) 
         subst (λ (z : ℤ). IsLent t margin (step_shifts t v step base) k a b (slot_at t margin k (unsigned_abs z))) moved
         (lent_between t margin (step_shifts t v step base) a b k (padded_index t cell) (range_low margin a k room (omega arith) known) (omega arith) (omega arith))
 
-  -- a cell reads a place of the box, no farther than the reach from its own
-  module _ (cell k p : ℕ) (here : cell < cells t) (known : k < v.directions) (at : pos p ≡ pos (padded_index t cell) -ℤ offset t (velocity v k)) where
-    read_below : p < padded t
-    read_below =
-        let turned = offset-opposite t space v laws fits k known in
-        let high = moved_high t space v laws fits (opposite v k) cell (laws.opposite_exists k known) here in
-        omega (arith, ints, at, turned, high)
-
   -- where the sweep rises, it writes lower than it reads
   pub read_rising : (margin base : ℕ) → HasRoom t v Rise margin base → IsReadNear t margin base v (step_shifts t v Rise base) (rising_strip t v)
   read_rising margin base room = record {
-    near = λ a b cell k p end here low high known at.
+    near = λ a b cell k end here low high known.
+        let p : ℕ = place_behind t (velocity v k) cell in let at = place_behind_is t space v laws fits k known cell here in
         let between = cell_between t space a b cell end here low high in let after = between.0 in let before = between.1 in
         let least = offset_least t space v laws fits k known in let most = offset_most t space v laws fits k known in
-        let value = get-shifts Rise base k known in let below = read_below cell k p here known at in let room' = room.0 in
+        let value = get-shifts Rise base k known in let below = place_behind_below t space v laws fits k known cell here in let room' = room.0 in
         elim (cases_lt (p + reach t v) (row_start t b)) [
           | inl near ↦ inl (
             (let up : unsigned_abs (pos (row_start t a) +ℤ shift (step_shifts t v Rise base) k) ≤ base + p = rw value (omega (arith, ints, at, most, room')) in omega arith),
@@ -121,7 +125,8 @@ module _ (t : Torus) (space : IsSpace t) (v : Stencil) (laws : IsVelocitySet v) 
   -- where it falls, it writes higher
   pub read_falling : (margin base : ℕ) → HasRoom t v Fall margin base → IsReadNear t margin base v (step_shifts t v Fall base) (falling_strip t v)
   read_falling margin base room = record {
-    near = λ a b cell k p end here low high known at.
+    near = λ a b cell k end here low high known.
+        let p : ℕ = place_behind t (velocity v k) cell in let at = place_behind_is t space v laws fits k known cell here in
         let between = cell_between t space a b cell end here low high in let after = between.0 in let before = between.1 in
         let least = offset_least t space v laws fits k known in
         let value = get-shifts Fall base k known in

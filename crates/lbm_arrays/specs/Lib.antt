@@ -6,3 +6,4 @@ pub mod Forked
 pub mod LentRanges
 pub mod Pads
 pub mod Steps
+pub mod Worked

@@ -4,8 +4,9 @@
 --     off          an offset
 --     old, new     the region's slots before and after
 use Rattle.std.specs.Prelude.{◌≡◌, ◌≢◌, ℕ, ◌+◌, ◌<◌, ◌≤◌, List, ℤ, pos, ◌+ℤ◌}
-use Rattle.lbm_space.specs.Torus.{Torus, cells}
-use Rattle.lbm_space.specs.Padded.{padded_index, wrap, IsPad}
+use Rattle.lbm_space.specs.Stencil.{Stencil, velocity}
+use Rattle.lbm_space.specs.Torus.{Torus, cells, padded}
+use Rattle.lbm_space.specs.Padded.{padded_index, place_ahead, wrap, IsPad}
 use Rattle.lbm_arrays.specs.Arrays.{slot_at, held}
 
 -- the slot of a padded place
@@ -33,6 +34,15 @@ pub record IsLoaded (t : Torus) (margin k base : ℕ) (old new : List ℤ) : Typ
 pub record IsStored (t : Torus) (margin k base : ℕ) (off : ℤ) (old new : List ℤ) : Type 0 where
   pub pads : (p : ℕ) → IsPad t p → IsReached t off p → held new (place_slot t margin k base (stand t p)) ≡ held old (place_slot t margin k base p)
   pub others : (s : ℕ) → ((p : ℕ) → IsPad t p → IsReached t off p → s ≢ place_slot t margin k base (stand t p)) → held new s ≡ held old s
+
+-- each padded place of the first q arrays has the value of the interior place for which it stands
+abbrev pub AreLoaded : Torus → (q margin base : ℕ) → (old new : List ℤ) → Type 0
+AreLoaded t q margin base old new = (k p : ℕ) → k < q → p < padded t → held new (place_slot t margin k base p) ≡ held old (place_slot t margin k base (stand t p))
+
+-- in the array of each direction the place ahead of each cell has given its value to the interior place for which it stands
+abbrev pub AreStored : Torus → Stencil → (margin base : ℕ) → (old new : List ℤ) → Type 0
+AreStored t v margin base old new = (k cell : ℕ) → k < v.directions → cell < cells t
+    → held new (place_slot t margin k base (stand t (place_ahead t (velocity v k) cell))) ≡ held old (place_slot t margin k base (place_ahead t (velocity v k) cell))
 
 -- the same for the pads from place lo up to, not including, hi
 pub record IsLoadedIn (t : Torus) (margin k base lo hi : ℕ) (old new : List ℤ) : Type 0 where

@@ -6,6 +6,7 @@
 #![tactic(auto)]
 
 mod halves;
+pub mod laws;
 mod loan;
 mod pads;
 mod region;
@@ -16,8 +17,5 @@ mod work;
 pub use loan::Loan;
 pub use region::Region;
 pub use slabs::{Shifts, fork};
-pub use steps::{Step, falling_strip, rising_strip, shifts};
+pub use steps::{Step, falling_strip, place_behind, rising_strip, shifts};
 pub use work::PieceWork;
-
-#[cfg(test)]
-mod tests;

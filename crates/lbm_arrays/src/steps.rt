@@ -2,13 +2,13 @@
 
 ghost use Rattle.std.specs.Prelude.{◌≡◌, ◌⊎◌, ℕ, ◌+◌, ◌/◌, ◌<◌, ◌≤◌, ◌^◌, List, pos, ◌+ℤ◌, ◌-ℤ◌, ◌≤ℤ◌, ◌<ℤ◌, unsigned_abs};
 ghost use Rattle.std.specs.Int.{int_min, int_max};
-ghost use Rattle.lbm_space.specs.Stencil.{Stencil};
+ghost use Rattle.lbm_space.specs.Stencil.{Stencil, velocity};
 ghost use Rattle.lbm_space.specs.Torus.{IsSpace, cells, rows as row_count, padded};
-ghost use Rattle.lbm_space.specs.Padded.{row_start, reach as reach_of};
+ghost use Rattle.lbm_space.specs.Padded.{row_start, offset, reach as reach_of, IsInterior};
 ghost use Rattle.lbm_space.specs.Cuttings.{IsCutting, slabs_of, rows_of};
 ghost use Rattle.lbm_arrays.specs.LentRanges.{IsLent, AreInside};
 ghost use Rattle.lbm_arrays.specs.declared.steps.Step.TheVariants.{Rise, Fall};
-ghost use Rattle.lbm_arrays.specs.Steps.{shift_of, step_shifts, HasRoom, touched, rising_strip, falling_strip, strips_size, IsReadNear};
+ghost use Rattle.lbm_arrays.specs.Steps.{shift_of, step_shifts, HasRoom, touched, rising_strip, falling_strip, strips_size, TouchesArrays, ReadsPlaces, IsReadNear};
 
 use crate::Shifts;
 use lbm_space::{Space, VelocitySet};
@@ -34,8 +34,13 @@ pub fn shifts<V: VelocitySet>(space: &Space, base: u32, step: Step) -> Shifts
     ensures table { result.items ≡ step_shifts space.now V.stencil step base }
     ensures inside { (margin : ℕ) → HasRoom space.now V.stencil step margin base → AreInside space.now margin result.items }
 
-    // What the step touches for a cell lies in the range of any slab that has the cell's row.
+    // What the step touches for a cell is a slot of its array, and lies in the range of any slab that has the cell's row.
+    ensures within { (margin : ℕ) → HasRoom space.now V.stencil step margin base → TouchesArrays space.now V.stencil step margin base }
     ensures touched { (margin a b cell k : ℕ) → HasRoom space.now V.stencil step margin base → b ≤ row_count space.now → cell < cells space.now → a ≤ cell / space.now.nx → cell / space.now.nx < b → k < V.stencil.directions → IsLent space.now margin result.items k a b (touched space.now margin base V.stencil step k cell) }
+
+    // What a cell reads that takes its populations from behind it is a place of the box. Where a sweep rises or falls, its
+    // slab is lent that place or has saved it.
+    ensures read { ReadsPlaces space.now V.stencil }
     ensures rising { (margin : ℕ) → step ≡ Rise → HasRoom space.now V.stencil Rise margin base → IsReadNear space.now margin base V.stencil result.items (rising_strip space.now V.stencil) }
     ensures falling { (margin : ℕ) → step ≡ Fall → HasRoom space.now V.stencil Fall margin base → IsReadNear space.now margin base V.stencil result.items (falling_strip space.now V.stencil) }
 {
@@ -45,6 +50,18 @@ pub fn shifts<V: VelocitySet>(space: &Space, base: u32, step: Step) -> Shifts
         table.push(from_base(base, shift::<V>(space, step, reach, k)));
     }
     table
+}
+
+/// The place from which direction `k` leads to the place of a cell, without wrapping: where a cell finds population `k` in
+/// a lattice whose pads are loaded, if each population stands at the cell behind its own.
+pub fn place_behind<V: VelocitySet>(space: &Space, k: usize, place: u32) -> u32
+    requires direction { k < V.stencil.directions }
+    requires dimension { V.stencil.dimension ≡ space.now.dimension }
+    requires cell { IsInterior space.now place }
+    ensures place { pos result ≡ (pos place -ℤ offset space.now (velocity V.stencil k)) }
+    ensures inside { result < padded space.now }
+{
+    as_place(before(place, space.offset::<V>(k)))
 }
 
 // A shift, counted from the first slot.
@@ -184,6 +201,14 @@ fn before(place: u32, off: i64) -> i64
     ensures small { unsigned_abs result < 2 ^ 33 }
 {
     i64::from(place) - off
+}
+
+fn as_place(z: i64) -> u32
+    requires low { pos 0 ≤ℤ z }
+    requires high { z <ℤ pos (2 ^ 32) }
+    ensures { pos result ≡ z }
+{
+    z as u32
 }
 
 // The greater of two numbers, as a place.

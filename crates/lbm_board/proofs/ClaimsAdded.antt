@@ -10,7 +10,7 @@ use Rattle.lbm_board.specs.declared.record.View.{View}
 use Rattle.lbm_board.specs.Lists.{Each, total}
 use Rattle.lbm_board.specs.Entries.{draws, finishes, only}
 use Rattle.lbm_board.specs.BoardRecord.{in_record, times_drawn, times_finished, FinishesItsDraws}
-use Rattle.lbm_board.specs.Models.{times, IsTurn}
+use Rattle.lbm_board.specs.Fields.{times, IsTurn}
 use Rattle.lbm_board.specs.Closing.{turn_of, AreClaims}
 use Rattle.lbm_board.proofs.Lists.{each_map, total_less}
 

@@ -25,7 +25,7 @@ long y (suc n) = ap suc (long y n)
 
 module _ {T : Type 0} where
   -- a load leaves the words as they were
-  loaded : (turns : ℕ) (given : List T) (words : List ℕ) (homes : Homes T) (views : List (View T)) → length words ≡ 2 → Phase turns given (get_or words 0 0) (get_or words 1 0) homes views
+  pub loaded : (turns : ℕ) (given : List T) (words : List ℕ) (homes : Homes T) (views : List (View T)) → length words ≡ 2 → Phase turns given (get_or words 0 0) (get_or words 1 0) homes views
       → RunningRule turns given record { words = set words 0 (get_or words 0 0); homes = homes; views = views }
   loaded turns given words homes views two phase =
       subst (λ (ws : List ℕ). RunningRule turns given record { words = ws; homes = homes; views = views }) (sym (same words two)) (two, phase)

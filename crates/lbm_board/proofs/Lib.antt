@@ -9,6 +9,7 @@ pub mod Reversed
 pub mod Claiming
 pub mod Reporting
 pub mod SplitAndJoin
+pub mod TwoTurns
 pub mod ClosedTable
 pub mod Rotated
 pub mod Ends

@@ -4,7 +4,7 @@ use Rattle.std.specs.List.{All}
 use Rattle.std.proofs.lemmas.Option.{get_or_from_slice_get}
 use mathlib.Core.Logic.{dite}
 use native.Mathlib.Decide.{dec_lt}
-use Rattle.lbm_board.specs.Models.{rotated}
+use Rattle.lbm_board.specs.Fields.{rotated}
 use Rattle.lbm_board.proofs.Rotated.{rotated-front}
 
 module _ {A : Type 0} where

@@ -3,7 +3,7 @@ use Rattle.std.proofs.Common.{◌≡◌, ℕ, zero, suc, ◌+◌, ◌<◌, ◌�
 use mathlib.Core.List.{map-append}
 use Rattle.std.specs.List.{remove}
 use Rattle.atomic_table.specs.Table.{turned}
-use Rattle.lbm_board.specs.Models.{rotated}
+use Rattle.lbm_board.specs.Fields.{rotated}
 
 -- the first element and the rest, from a place on
 pub from_place : {A : Type 0} (xs : List A) (n : ℕ) (x : A) → slice_get xs n ≡ Some x → drop n xs ≡ x ∷ drop (suc n) xs

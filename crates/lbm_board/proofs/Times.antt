@@ -2,7 +2,7 @@
 use Rattle.std.proofs.Common.{◌≡◌, ℕ, zero, suc, ◌+◌, ◌<◌, List, [], ◌∷◌, ◌++◌, length, drop, Some, slice_get, ap, arith}
 use Rattle.std.specs.List.{remove}
 use Rattle.lbm_board.specs.Entries.{one_if_same}
-use Rattle.lbm_board.specs.Models.{times}
+use Rattle.lbm_board.specs.Fields.{times}
 use Rattle.lbm_board.proofs.Lists.{total_append}
 
 pub times_more : (k n : ℕ) (ns : List ℕ) → times k (ns ++ n ∷ []) ≡ times k ns + one_if_same n k

@@ -1,5 +1,5 @@
 -- What the fields of a turn keep, over its calls.
-use Rattle.std.proofs.Common.{◌≡◌, ◌≢◌, ℕ, suc, ◌<◌, Bool, true, true≢false, List, [], ◌∷◌, ◌++◌, map, length, take, drop, Option, Some, slice_get, sym, ap, refl, subst, ◌∙◌, arith, length-append}
+use Rattle.std.proofs.Common.{◌≡◌, ◌≢◌, ℕ, suc, ◌<◌, Bool, true, false, true≢false, List, [], ◌∷◌, ◌++◌, map, length, take, drop, Option, Some, slice_get, sym, ap, refl, subst, ◌∙◌, arith, length-append}
 use mathlib.Core.Logic.{dite}
 use mathlib.Core.List.{map-append}
 use native.Mathlib.Decide.{ℕ_discrete}
@@ -13,8 +13,9 @@ use Rattle.lbm_board.specs.declared.record.Record.{Record}
 use Rattle.lbm_board.specs.declared.record.View.{View}
 use Rattle.lbm_board.specs.Lists.{Each, total}
 use Rattle.lbm_board.specs.Entries.{one_if_same, draws, finishes, nones, reported, DrawsBelow, only}
-use Rattle.lbm_board.specs.Steps.{after_entry, after_none}
-use Rattle.lbm_board.specs.Models.{times, empty_slot, IsTurn}
+use Rattle.lbm_board.specs.Steps.{after_entry, after_none, IsLive, IsSameTurn}
+use Rattle.lbm_board.specs.Models.{turn_model}
+use Rattle.lbm_board.specs.Fields.{times, empty_slot, IsTurn}
 use Rattle.lbm_board.proofs.Lists.{each_front, each_back}
 use Rattle.lbm_board.proofs.Counts.{same_counts, other_counts_not}
 use Rattle.lbm_board.proofs.OneMoreEntry.{total_entry}
@@ -48,6 +49,34 @@ module _ {T : Type 0} (table : TableId) (me : Me (Option T) (View T)) (number : 
   -- a number that the turn holds stands in its list
   pub held_stands : (k : ℕ) → total (finishes k) log.entries < total (draws k) log.entries → 0 < times k held
   held_stands k holds = let d = h.counts k in omega arith
+
+  -- the view of a turn, and the same turn with another view
+  pub live : IsLive table.slots me.0
+  live = record { alone = h.alone; filled = h.full; leaves = leaves ended refl } where
+    leaves : (b : Bool) → ended ≡ b → total nones log.entries ≡ 0 → 0 < me.0.leave
+    leaves true e none = let told = h.told_so e in absurd (omega arith)
+    leaves false e none = (h.leaves e).0
+
+  pub same_turn : (v : View T) → IsSameTurn me.0 v → IsTurn table (v, me.1) number drawn drawn_room held held_room ended
+  same_turn v same =
+      let P : List (Record T) → Type 0 = λ rs. IsTurn table (record v { records = rs }, me.1) number drawn drawn_room held held_room ended in
+      subst P (sym same.records) record {
+        alone = h.alone;
+        full = same.filled ∙ h.full;
+        named = h.named;
+        carries = h.carries;
+        counts = h.counts;
+        drawn_is = h.drawn_is;
+        once = h.once;
+        drawn_inside = h.drawn_inside;
+        held_inside = h.held_inside;
+        leaves = λ on. let now = h.leaves on in (same.leaves now.1, now.1);
+        told_so = h.told_so;
+        few = h.few;
+        fewer = h.fewer;
+        room = h.room;
+        room_to_hold = h.room_to_hold;
+      }
 
   pub after_draw : (n : ℕ) → n < table.slots → Each (DrawsBelow n) log.entries
       → IsTurn table (after_entry me.0 log (Draw n (reported log.entries)), me.1 ++ empty_slot n ∷ []) number (drawn ++ n ∷ []) drawn_room (held ++ n ∷ []) held_room ended
@@ -144,3 +173,7 @@ module _ {T : Type 0} where
   moved a a' me me' number d d' m m' h h' n n' ended ea eme ed em eh en keeps =
       let P : TableId × Me (Option T) (View T) × List ℕ × ℕ × List ℕ × ℕ → Type 0 = λ z. IsTurn z.0 z.1 number z.2 z.3 z.4 z.5 ended in
       subst P (λ i. (ea i, eme i, ed i, em i, eh i, en i)) keeps
+
+  -- contracts see two views of one turn as the same
+  pub same_model : (a a' : TableId) (v v' : View T) → a' ≡ a → IsSameTurn v v' → turn_model a' v' ≡ turn_model a v
+  same_model a a' v v' at same = λ i. record { table = at i; given = same.given i; log = only (same.records i) }

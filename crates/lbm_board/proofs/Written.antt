@@ -3,7 +3,7 @@ use Rattle.std.proofs.Common.{◌≡◌, ◌≢◌, ℕ, zero, suc, ◌+◌, ◌
 use mathlib.Core.Logic.{dite}
 use native.Mathlib.Decide.{ℕ_discrete}
 use Rattle.lbm_board.specs.Entries.{one_if_same}
-use Rattle.lbm_board.specs.Models.{times}
+use Rattle.lbm_board.specs.Fields.{times}
 use Rattle.lbm_board.proofs.Counts.{same_counts, other_counts_not}
 
 module _ {A : Type 0} where

@@ -1,10 +1,10 @@
 -- What the records of all turns of a board agree on, and what a closed board hands out.
-use Rattle.std.specs.Prelude.{◌≡◌, ℕ, ◌<◌, ◌≤◌, min, List, [], ◌∷◌, length, Option, Some, None, slice_get}
+use Rattle.std.specs.Prelude.{◌≡◌, ◌≢◌, ℕ, ◌<◌, ◌≤◌, min, List, [], ◌∷◌, length, Option, Some, None, slice_get}
 use Rattle.lbm_board.specs.declared.record.Entry.{Entry}
 use Rattle.lbm_board.specs.declared.record.Entry.TheVariants.{Draw, Finish, Look, NoneLeft}
 use Rattle.lbm_board.specs.declared.record.Record.{Record}
 use Rattle.lbm_board.specs.Lists.{Each, total}
-use Rattle.lbm_board.specs.Entries.{greatest, one_if_below, draws, finishes, reported, told}
+use Rattle.lbm_board.specs.Entries.{greatest, one_if_below, draws, finishes, reported, told, Holds}
 
 module _ {T : Type 0} where
   -- the sum of f over the entries of a record
@@ -58,6 +58,13 @@ module _ {T : Type 0} where
     pub least : Each (λ r. least_report records ≤ told r.entries) records
     -- each answer is at most what each turn had reported before it drew a number below one that the answered turn had drawn
     pub at_most_own : Each (λ r. Each (λ e. Each (λ q. Each (AnswersAtMostOwn e) q.entries) records) r.entries) records
+
+  -- the records of two turns of one board, at any time: no piece is held by both
+  pub record AreApart (one two : Record T) : Type 0 where
+    pub turns : one.turn ≢ two.turn
+    -- what one has drawn the other has not
+    pub drawn : (k : ℕ) → 0 < total (draws k) one.entries → total (draws k) two.entries ≡ 0
+    pub held : (k : ℕ) → Holds k one → ¬ Holds k two
 
   -- a piece that the entry finishes is in its place
   abbrev pub IsInPlace : List (Option T) → Entry T → Type 0

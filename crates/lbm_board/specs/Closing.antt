@@ -1,4 +1,4 @@
--- What is known on the way from the last call to what a closed board hands out.
+-- What is known on the way from the last call to what a closed board hands out. For private functions alone: no public contract rests on it.
 use Rattle.std.specs.Prelude.{◌≡◌, ℕ, ◌<◌, ltb, cond, Bool, List, [], ◌∷◌, length, Option, Some, None, slice_get}
 use Rattle.lbm_board.specs.declared.record.Record.{Record}
 use Rattle.lbm_board.specs.Lists.{Each, total}

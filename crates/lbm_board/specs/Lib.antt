@@ -5,4 +5,5 @@ pub mod RunningRule
 pub mod Steps
 pub mod Closing
 pub mod Models
+pub mod Fields
 pub mod ReservedList

@@ -1,4 +1,4 @@
--- A list that lies in the one slot of a table.
+-- A list that lies in the one slot of a table. For private functions alone: no public contract rests on it.
 use Rattle.std.specs.Prelude.{◌≡◌, ℕ, ◌≤◌, List, [], ◌∷◌, Option, vec_capacity}
 use mathlib.Core.Option.{some}
 use mathlib.Core.Option as maybe

@@ -1,4 +1,4 @@
--- The running rule of a board: what holds of its table between any two steps.
+-- The running rule of a board: what holds of its table between any two steps. The proofs rest on it, and no public contract does.
 -- Word 0 counts the claims and word 1 is the least report. Slot k is at home, or out with the turn that holds piece k.
 use Rattle.std.specs.Prelude.{◌≡◌, ◌⊎◌, ℕ, ◌+◌, ◌<◌, ◌≤◌, min, max, Bool, true, false, List, [], ◌∷◌, length, slice_index, Option, Some, None}
 use mathlib.Core.Option.{some, none}

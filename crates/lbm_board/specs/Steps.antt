@@ -1,5 +1,5 @@
--- What each kind of step at a board's table tells the seat that makes it.
-use Rattle.std.specs.Prelude.{◌≡◌, ℕ, ◌+◌, ◌-◌, ◌<◌, ◌≤◌, min, max, true, false, List, [], ◌∷◌, ◌++◌, Option, Some, None}
+-- What each kind of step at a board's table tells the seat that makes it. For private functions alone: no public contract rests on it.
+use Rattle.std.specs.Prelude.{◌≡◌, ℕ, ◌+◌, ◌-◌, ◌<◌, ◌≤◌, min, max, true, false, List, [], ◌∷◌, ◌++◌, drop, Option, Some, None}
 use mathlib.Core.Option.{some}
 use lib.ListN.{get_elem?}
 use Rattle.atomic_table.specs.Table.{Me, Step}
@@ -7,8 +7,9 @@ use Rattle.lbm_board.specs.declared.record.Entry.{Entry}
 use Rattle.lbm_board.specs.declared.record.Entry.TheVariants.{Draw, Finish, Look, NoneLeft}
 use Rattle.lbm_board.specs.declared.record.Record.{Record}
 use Rattle.lbm_board.specs.declared.record.View.{View}
-use Rattle.lbm_board.specs.Lists.{Each}
-use Rattle.lbm_board.specs.Entries.{reported, told, latest, DrawsBelow, record_of, only, with_entry}
+use Rattle.lbm_board.specs.Lists.{Each, total}
+use Rattle.lbm_board.specs.Entries.{nones, reported, told, latest, DrawsBelow, record_of, only, with_entry}
+use Rattle.lbm_board.specs.BoardRecord.{AreApart}
 use Rattle.lbm_board.specs.RunningRule.{opening_view}
 
 -- a seat's view and the slots that it holds
@@ -92,3 +93,32 @@ module _ {T : Type 0} where
   -- what a view leaves behind where another has taken all of it
   abbrev pub spent : View T
   spent = record { records = []; leave = 0; filled = 0; made = 0; filling = false; given = [] }
+
+  -- a comparison: the records of the two turns that the seat stands for are apart, and nothing changes
+  abbrev pub Compared : Step (Option T) → SeatState T → ℕ → SeatState T → Type 0
+  Compared st me n me' = (me' ≡ me) × ((one two : Record T) → me.0.records ≡ two ∷ one ∷ [] → AreApart one two)
+
+  -- how often the turn of this record may still be told that no piece is left
+  abbrev pub may_end : Record T → ℕ
+  may_end r = 1 - total nones r.entries
+
+  -- a view without its first turn
+  abbrev pub without_first : View T → View T
+  without_first v = record v { records = drop 1 v.records; leave = v.leave - may_end (only v.records) }
+
+  -- the view of its first turn
+  abbrev pub first_alone : View T → View T
+  first_alone v = record v { records = only v.records ∷ []; leave = may_end (only v.records) }
+
+  -- a view of one turn, which may be told that no piece is left unless it was
+  pub record IsLive (slots : ℕ) (v : View T) : Type 0 where
+    pub alone : v.records ≡ only v.records ∷ []
+    pub filled : v.filled ≡ slots
+    pub leaves : total nones (only v.records).entries ≡ 0 → 0 < v.leave
+
+  -- a view of the same turn
+  pub record IsSameTurn (old new : View T) : Type 0 where
+    pub records : new.records ≡ old.records
+    pub filled : new.filled ≡ old.filled
+    pub given : new.given ≡ old.given
+    pub leaves : total nones (only old.records).entries ≡ 0 → 0 < new.leave

@@ -3,10 +3,11 @@ ghost use Rattle.std.specs.Prelude.{◌≡◌, ◌≢◌, ℕ, ◌<◌, ◌≤�
 ghost use Rattle.lbm_board.specs.declared.record.Entry.TheVariants.{Finish, Look};
 ghost use Rattle.lbm_board.specs.Entries.{told, latest, with_entry, Holds};
 ghost use Rattle.lbm_board.specs.Models.{IsTurnOf, Draws, EndsTurn, fresh_turn, log_of};
-ghost use Rattle.lbm_board.specs.BoardRecord.{IsClosed};
+ghost use Rattle.lbm_board.specs.BoardRecord.{AreApart, IsClosed};
 
 use crate::claims::Claims;
 use crate::closing::take_pieces;
+use crate::comparing::compare;
 use crate::holding::give_back_held;
 use crate::joining::join_all;
 use crate::new_turns::make_turns;
@@ -32,7 +33,8 @@ pub struct Board<T> {
 }
 
 impl<T> Model for Board<T> {
-    ghost use Rattle.lbm_board.specs.Models.{BoardModel, board_model, IsBoard};
+    ghost use Rattle.lbm_board.specs.Models.{BoardModel, board_model};
+    ghost use Rattle.lbm_board.specs.Fields.{IsBoard};
 
     ghost Value = { BoardModel T };
 
@@ -95,6 +97,16 @@ impl<T> Board<T> {
         ensures keeps { (k : ℕ) → Holds k turn.old.log → Holds k turn.new.log }
     {
         read_least(&self.table.shared, &mut turn.seat)
+    }
+
+    /// Shows that no piece is held by both of two turns, and that no number was drawn by both, whatever other turns do meanwhile.
+    /// It changes neither turn. Records only grow, so no piece was ever held by both.
+    pub fn show_apart(&self, one: &mut Turn<T>, two: &mut Turn<T>)
+        requires { IsTurnOf self.now one.old × IsTurnOf self.now two.old }
+        ensures same { (one.new ≡ one.old) × (two.new ≡ two.old) }
+        ensures apart { AreApart one.old.log two.old.log }
+    {
+        compare(&self.table.shared, &mut one.seat, &mut two.seat);
     }
 }
 

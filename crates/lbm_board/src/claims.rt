@@ -1,7 +1,7 @@
 //! Which turn drew each number, and which numbers were not finished.
 ghost use Rattle.std.specs.Prelude.{◌≡◌, ℕ, ◌<◌, ◌≤◌, List, [], ◌∷◌, length, IfOk, slice_get, Some, None, false, replicate, All};
 ghost use Rattle.lbm_board.specs.declared.record.Record.{Record};
-ghost use Rattle.lbm_board.specs.Models.{times};
+ghost use Rattle.lbm_board.specs.Fields.{times};
 ghost use Rattle.lbm_board.specs.Closing.{AreClaims};
 
 use crate::turn::Turn;

@@ -2,7 +2,7 @@
 ghost use Rattle.std.specs.Prelude.{◌≡◌, ℕ, ◌≤◌, ◌<◌, Some, map, slice_get, length, remove, vec_capacity};
 ghost use Rattle.lbm_board.specs.Entries.{only, told, Holds};
 ghost use Rattle.lbm_board.specs.Steps.{view_after_finish};
-ghost use Rattle.lbm_board.specs.Models.{times, rotated, empty_slot, IsTurnSeat};
+ghost use Rattle.lbm_board.specs.Fields.{times, rotated, empty_slot, IsTurnSeat};
 
 use crate::rule::{BoardSeat, SharedTable};
 use crate::steps::give_back;

@@ -29,12 +29,12 @@ pub(crate) fn join_all<T>(
     while let Some(turn) = turns.pop() {
         claims.add(&turn);
         let Turn {
-            seat: other,
+            seat: mut other,
             number: _,
             drawn: _,
             held: _,
             ended: _,
         } = turn;
-        join(table, seat, other);
+        join(table, seat, &mut other);
     }
 }

@@ -8,6 +8,7 @@
 mod board;
 mod claims;
 mod closing;
+mod comparing;
 mod holding;
 mod joining;
 mod new_turns;
@@ -25,6 +26,3 @@ mod turn_room;
 pub use board::{Board, Closed};
 pub use record::{Entry, Record};
 pub use turn::Turn;
-
-#[cfg(test)]
-mod tests;

@@ -5,7 +5,7 @@ ghost use mathlib.Core.Option.{some};
 ghost use lib.ListN.{get_elem?};
 ghost use Rattle.lbm_board.specs.Lists.{total};
 ghost use Rattle.lbm_board.specs.RunningRule.{in_view, of_turn, each_one, opening_view};
-ghost use Rattle.lbm_board.specs.Steps.{after_split, new_view, joined};
+ghost use Rattle.lbm_board.specs.Steps.{after_split, new_view, joined, spent};
 ghost use Rattle.lbm_board.specs.Closing.{IsClosedTable};
 
 use crate::rule::{BoardSeat, BoardTable, SharedTable};
@@ -42,17 +42,19 @@ pub(crate) fn split<T>(table: &SharedTable<T>, seat: &mut BoardSeat<T>) -> Board
     table.split_seat::<TurnSplit>(seat)
 }
 
-/// Joins the records of another seat, whatever slots it still holds. They come before those of this one.
-pub(crate) fn join<T>(table: &SharedTable<T>, seat: &mut BoardSeat<T>, mut other: BoardSeat<T>)
-    requires table { (seat.old.table_id ≡ table.now.table_id) × (other.table_id ≡ table.now.table_id)
+/// Takes in the records of another seat, which is left with none, whatever slots it still holds. They come before those of this one.
+pub(crate) fn join<T>(table: &SharedTable<T>, seat: &mut BoardSeat<T>, other: &mut BoardSeat<T>)
+    requires table { (seat.old.table_id ≡ table.now.table_id) × (other.old.table_id ≡ table.now.table_id)
         × (table.now.table_id.words ≡ 2) }
     requires filled { (seat.old.me.0.filled ≡ length table.now.key.given.value.items)
-        × (other.me.0.filled ≡ length table.now.key.given.value.items) }
+        × (other.old.me.0.filled ≡ length table.now.key.given.value.items) }
     requires seat { 0 < length seat.old.me.0.records }
-    ensures table { (seat.new.table_id ≡ seat.old.table_id) × (seat.new.id ≡ seat.old.id) }
-    ensures both { seat.new.me ≡ (joined seat.old.me.0 other.me.0, seat.old.me.1) }
+    ensures table { (seat.new.table_id ≡ seat.old.table_id) × (seat.new.id ≡ seat.old.id)
+        × (other.new.table_id ≡ other.old.table_id) }
+    ensures both { seat.new.me ≡ (joined seat.old.me.0 other.old.me.0, seat.old.me.1) }
+    ensures left { other.new.me ≡ (spent, other.old.me.1) }
 {
-    let whole = table.split_seat::<WholeSplit>(&mut other);
+    let whole = table.split_seat::<WholeSplit>(other);
     table.join_seat::<RecordsJoin>(seat, whole);
 }
 

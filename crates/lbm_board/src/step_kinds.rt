@@ -1,5 +1,5 @@
 //! The kinds of step at the table, and what each tells. These types are for the proofs alone.
-ghost use Rattle.lbm_board.specs.Steps.{Claimed, Finished, Looked, TookToFill, GaveFilled, after_split, new_view, joined, spent};
+ghost use Rattle.lbm_board.specs.Steps.{Claimed, Finished, Looked, TookToFill, GaveFilled, Compared, after_split, new_view, joined, spent, without_first, first_alone};
 
 use crate::record::View;
 use atomic_table::{Join, Play, Split};
@@ -39,6 +39,13 @@ impl<T> Play<Option<T>, View<T>> for FillGivingStep {
     ghost then = { GaveFilled };
 }
 
+/// The records of two turns in one view are seen to be apart.
+pub(crate) struct CompareStep;
+
+impl<T> Play<Option<T>, View<T>> for CompareStep {
+    ghost then = { Compared };
+}
+
 /// A new seat gets the empty record of one more turn.
 pub(crate) struct TurnSplit;
 
@@ -55,6 +62,24 @@ impl<T> Split<View<T>> for WholeSplit {
     ghost left = { λ v. spent };
 
     ghost right = { λ v. v };
+}
+
+/// A new seat gets the first turn of a view.
+pub(crate) struct FirstSplit;
+
+impl<T> Split<View<T>> for FirstSplit {
+    ghost left = { without_first };
+
+    ghost right = { first_alone };
+}
+
+/// A seat without a record takes over the view of another.
+pub(crate) struct WholeJoin;
+
+impl<T> Join<View<T>> for WholeJoin {
+    ghost both = { λ v w. w };
+
+    ghost spent = { spent };
 }
 
 /// A seat takes in the records of another.

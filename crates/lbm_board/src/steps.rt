@@ -5,7 +5,7 @@ ghost use lib.ListN.{get_elem?};
 ghost use Rattle.lbm_board.specs.Lists.{Each};
 ghost use Rattle.lbm_board.specs.Entries.{only, told, DrawsBelow, Holds};
 ghost use Rattle.lbm_board.specs.Steps.{after_none, view_after_draw, view_after_finish, view_after_look};
-ghost use Rattle.lbm_board.specs.Models.{IsTurnSeat};
+ghost use Rattle.lbm_board.specs.Fields.{IsTurnSeat};
 
 use crate::rule::{BoardSeat, SharedTable};
 use crate::step_kinds::{ClaimStep, FinishStep, LookStep};

@@ -17,7 +17,8 @@ pub struct Turn<T> {
 }
 
 impl<T> Model for Turn<T> {
-    ghost use Rattle.lbm_board.specs.Models.{TurnModel, turn_model, IsTurn};
+    ghost use Rattle.lbm_board.specs.Models.{TurnModel, turn_model};
+    ghost use Rattle.lbm_board.specs.Fields.{IsTurn};
     ghost use Rattle.std.specs.Prelude.{vec_capacity};
 
     ghost Value = { TurnModel T };

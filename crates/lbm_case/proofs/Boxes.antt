@@ -4,7 +4,7 @@ use Rattle.std.proofs.lemmas.Bool.{cases_Bool, and_parts, and_from, or_cases, or
 use Rattle.lbm_space.specs.Torus.{Torus, IsSpace}
 use Rattle.lbm_model.specs.Sets.{stencil_of}
 use Rattle.lbm_model.specs.declared.sets.SetKind.{SetKind}
-use Rattle.lbm_model.specs.declared.sets.SetKind.TheVariants.{D2Q9, D3Q19}
+use Rattle.lbm_model.proofs.SetLaws.{IsVelocitySet-stencil_of}
 use Rattle.lbm_case.specs.Drawing.{is_side, is_space}
 
 side_from : (n : ℕ) → is_side n ≡ true → (0 < n) × (n ≤ 4096)
@@ -56,8 +56,7 @@ is_space-from_IsSpace t allowed =
 
 -- the lattice of a velocity set is a plane or a space
 pub two_or_three : (set : SetKind) → ((stencil_of set).dimension ≡ 2) ⊎ ((stencil_of set).dimension ≡ 3)
-two_or_three D2Q9 = inl refl
-two_or_three D3Q19 = inr refl
+two_or_three set = (IsVelocitySet-stencil_of set).plane_or_space
 
 -- a box is given exactly where it is allowed
 pub given_space : (t : Torus) (r : Option Torus) → (t.dimension ≡ 2) ⊎ (t.dimension ≡ 3) → SomeIff r (IsSpace t) t → r ≡ cond (is_space t) (Some t) None

@@ -18,7 +18,7 @@ use Rattle.lbm_case.specs.CaseOf.{IsFirstDensity}
 use Rattle.lbm_case.proofs.Places.{position_none_at, position-within}
 
 -- a drawing that is not ragged: its rows are equally long, and the layers divide them
-no_other : (o : Option ℕ) (n layers : ℕ) → option_or o (cond (n % layers == 0) None (Some n)) ≡ None → (o ≡ None) × (n % layers ≡ 0)
+pub no_other : (o : Option ℕ) (n layers : ℕ) → option_or o (cond (n % layers == 0) None (Some n)) ≡ None → (o ≡ None) × (n % layers ≡ 0)
 no_other None n layers none = elim (cases_Bool (n % layers == 0)) [
   | inl divides ↦ (refl, eqb-true _ _ divides)
   | inr rest ↦ absurd (none-some _ (sym none ∙ cond-false _ _ _ rest))

@@ -12,3 +12,10 @@ pub mod TextSizes
 pub mod TableSizes
 pub mod SmallRows
 pub mod Spelled
+pub mod FaultOrder
+pub mod Spelling
+pub mod KeyFaults
+pub mod KindFaults
+pub mod RangeFaults
+pub mod DrawingFaults
+pub mod FirstFault

@@ -1,5 +1,5 @@
 -- Numbered characters, row by row.
-use Rattle.std.proofs.Common.{◌≡◌, ℕ, suc, ◌+◌, ◌<◌, ◌≤◌, eqb, ◌==◌, List, [], ◌∷◌, ◌++◌, map, filter, length, take, drop, get_or, refl, ap, ◌∙◌, append_assoc, append-nil, add-zero, subst, arith, inl, inr}
+use Rattle.std.proofs.Common.{◌≡◌, ℕ, suc, ◌+◌, ◌<◌, ◌≤◌, eqb, ◌==◌, if◌then◌else◌, List, [], ◌∷◌, ◌++◌, map, filter, length, take, drop, get_or, refl, ap, ◌∙◌, append_assoc, append-nil, add-zero, subst, arith, inl, inr}
 use Rattle.std.specs.List.{range_with_len}
 use Rattle.std.specs.Str.{chars}
 use Rattle.std.proofs.lemmas.Bool.{cases_Bool}
@@ -9,8 +9,12 @@ use Rattle.std.proofs.lemmas.Grind.{flat_map-append}
 use Rattle.toml.specs.declared.value.Value.{Value}
 use Rattle.toml.specs.View.{view}
 use Rattle.lbm_case.specs.Views.{text_of, texts_view, drawing_view}
-use Rattle.lbm_case.specs.Drawing.{cells_of, moving_in}
-use Rattle.lbm_case.specs.Moving.{moving_from}
+use Rattle.lbm_case.specs.Drawing.{equals, cells_of, moving_in}
+
+-- the numbers of the characters that stand for a moving wall, where n is the number of the first one
+abbrev pub moving_from : ℕ → List ℕ → List ℕ
+moving_from n [] = []
+moving_from n (c ∷ cs) = if c == equals then n ∷ moving_from (n + 1) cs else moving_from (n + 1) cs
 
 pub same_items : (xs : List ℕ) → map (λ x. x) xs ≡ xs
 same_items [] = refl
@@ -56,3 +60,17 @@ length-cells_of-take rows i =
     let parts = length-append (cells_of (drawing_view (take i rows))) (cells_of (drawing_view (drop i rows))) in
     let joined = ap (λ xs. length (cells_of (drawing_view xs))) (take-append-drop i rows) in
     omega arith
+
+-- the cells of a row that move, by their numbers in the whole drawing
+later : (a n : ℕ) (cs : List ℕ) → map (λ x. a + x) (moving_from n cs) ≡ moving_from (a + n) cs
+later a n [] = refl
+later a n (c ∷ cs) =
+    let same : a + (n + 1) ≡ a + n + 1 = omega arith in
+    let more : map (λ x. a + x) (moving_from (n + 1) cs) ≡ moving_from (a + n + 1) cs = later a (n + 1) cs ∙ ap (λ m. moving_from m cs) same in
+    elim (cases_Bool (eqb c 61)) [
+      | inl moves ↦ rw (moves, more) refl
+      | inr still ↦ rw (still, more) refl
+    ]
+
+pub moving_in-later : (a : ℕ) (cs : List ℕ) → map (λ x. a + x) (moving_in cs) ≡ moving_from a cs
+moving_in-later a cs = ap (map (λ x. a + x)) (moving_in-from cs) ∙ (later a 0 cs ∙ ap (λ n. moving_from n cs) (add-zero a))

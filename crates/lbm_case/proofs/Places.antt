@@ -48,12 +48,12 @@ position_none p xs d none = elim (cases_Bool (ltb (prefix_len (λ x. not (p x)) 
 ]
 
 -- some place passes exactly where there is a first one
-any_at : {X : Type 0} (p : X → Bool) (xs : List X) (i : ℕ) (d : X) → i < length xs → p (get_or xs i d) ≡ true → list_any p xs ≡ true
+pub any_at : {X : Type 0} (p : X → Bool) (xs : List X) (i : ℕ) (d : X) → i < length xs → p (get_or xs i d) ≡ true → list_any p xs ≡ true
 any_at p [] i d within here = absurd (omega arith)
 any_at p (x ∷ xs) zero d within here = or_left _ _ here
 any_at p (x ∷ xs) (suc i) d within here = or_right _ _ (any_at p xs i d (omega arith) here)
 
-any_none : {X : Type 0} (p : X → Bool) (xs : List X) (d : X) → ((k : ℕ) → k < length xs → p (get_or xs k d) ≡ false) → list_any p xs ≡ false
+pub any_none : {X : Type 0} (p : X → Bool) (xs : List X) (d : X) → ((k : ℕ) → k < length xs → p (get_or xs k d) ≡ false) → list_any p xs ≡ false
 any_none p [] d none = refl
 any_none p (x ∷ xs) d none = or_from _ _ (none 0 (omega arith)) (any_none p xs d (λ k within. none (suc k) (omega arith)))
 

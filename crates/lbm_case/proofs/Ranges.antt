@@ -1,7 +1,7 @@
 -- What the ranges of the numbers give.
 use Rattle.std.proofs.Common.{◌≡◌, ℕ, zero, suc, ◌<◌, ◌≤◌, Bool, true, false, not, if◌then◌else◌, List, [], ◌∷◌, length, get_or, Some, None, find, ℤ, pos, ◌≤ℤ◌, ◌<ℤ◌, unsigned_abs, int_le, int_lt, nat_le, refl, sym, ◌∙◌, subst, T, lit<, arith, inl, inr}
 use Rattle.std.specs.List.{list_all}
-use Rattle.std.proofs.lemmas.Bool.{cases_Bool, cond-true, cond-false, not-false, and_parts, leb-true}
+use Rattle.std.proofs.lemmas.Bool.{cases_Bool, cond-true, cond-false, not-false, and_parts, leb-true, eqb-true, eq-eqb, both_ways}
 use Rattle.std.proofs.lemmas.Bool.Decides.{Decides-int_eq}
 use Rattle.std.proofs.lemmas.Option.{none-some}
 use Rattle.std.proofs.lemmas.Int.{ints}
@@ -10,7 +10,7 @@ use Rattle.lbm_cell.specs.Collision.{IsRates, rates}
 use Rattle.lbm_model.specs.Case.{IsMomentum, IsFlat}
 use Rattle.lbm_model.specs.Sets.{stencil_of}
 use Rattle.lbm_model.specs.declared.sets.SetKind.{SetKind}
-use Rattle.lbm_model.specs.declared.sets.SetKind.TheVariants.{D2Q9, D3Q19}
+use Rattle.lbm_model.proofs.SetLaws.{IsVelocitySet-stencil_of}
 use Rattle.lbm_case.specs.declared.key.Key.{Key}
 use Rattle.lbm_case.specs.declared.key.Key.TheVariants.{Set, Omega, Map, Layers, Density, Digit, Momentum, Force, OmegaMinus, Wall}
 use Rattle.lbm_case.specs.Keys.{all_keys}
@@ -23,7 +23,7 @@ not_first p x xs none = elim (cases_Bool (p x)) [
   | inr fails ↦ (fails, sym (cond-false _ _ _ fails) ∙ none)
 ]
 
-find-None : {X : Type 0} (p : X → Bool) (xs : List X) (i : ℕ) (d : X) → find p xs ≡ None → i < length xs → p (get_or xs i d) ≡ false
+pub find-None : {X : Type 0} (p : X → Bool) (xs : List X) (i : ℕ) (d : X) → find p xs ≡ None → i < length xs → p (get_or xs i d) ≡ false
 find-None p [] i d none within = absurd (omega arith)
 find-None p (x ∷ xs) zero d none within = (not_first p x xs none).0
 find-None p (x ∷ xs) (suc i) d none within = find-None p xs i d (not_first p x xs none).1 (omega arith)
@@ -42,10 +42,10 @@ in_range_at s none Force = not-false _ (find-None (λ key. not (is_in_range s ke
 in_range_at s none OmegaMinus = not-false _ (find-None (λ key. not (is_in_range s key)) all_keys 8 Set none (lit< tt))
 in_range_at s none Wall = not-false _ (find-None (λ key. not (is_in_range s key)) all_keys 9 Set none (lit< tt))
 
-at_most : (x y : ℤ) → int_le x y ≡ true → x ≤ℤ y
+pub at_most : (x y : ℤ) → int_le x y ≡ true → x ≤ℤ y
 at_most x y passed = record { le = subst T (sym passed) tt }
 
-below : (x y : ℤ) → int_lt x y ≡ true → x <ℤ y
+pub below : (x y : ℤ) → int_lt x y ≡ true → x <ℤ y
 below x y passed = record { lt = subst T (sym passed) tt }
 
 pub record IsWithin (least greatest n : ℤ) : Type 0 where
@@ -101,10 +101,17 @@ vector_small : (plane : Bool) (size : ℕ) (u : List ℤ) → is_vector plane si
 vector_small plane size u passed = small_part size u (and_parts _ _ passed).0
 
 vector_flat : (set : SetKind) (size : ℕ) (u : List ℤ) → is_vector (is_plane (Some set)) size u ≡ true → IsFlat (stencil_of set).dimension u
-vector_flat D2Q9 size u passed a axis past =
-    let two : a ≡ 2 = omega arith in
-    rw two ((Decides-int_eq (part u 2) (pos 0)).0 (and_parts _ _ passed).1)
-vector_flat D3Q19 size u passed a axis past = absurd (omega arith)
+vector_flat set size u passed a axis past = elim (cases_Bool (is_plane (Some set))) [
+  | inl flat ↦ (
+      let two : (stencil_of set).dimension ≡ 2 = eqb-true _ _ flat in
+      let third : a ≡ 2 = omega arith in
+      let within : is_vector true size u ≡ true = rw flat at passed in
+      rw third ((Decides-int_eq (part u 2) (pos 0)).0 (and_parts _ _ within).1))
+  | inr deep ↦ elim (IsVelocitySet-stencil_of set).plane_or_space [
+    | inl two ↦ absurd (both_ways _ deep (eq-eqb _ _ two))
+    | inr three ↦ absurd (omega arith)
+  ]
+]
 
 pub force_is_small : (s : Settings) → bad_number s ≡ None → (a : ℕ) → unsigned_abs (part s.force a) ≤ 1024
 force_is_small s none = vector_small _ 1024 s.force (in_range_at s none Force)

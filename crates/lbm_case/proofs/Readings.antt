@@ -1,7 +1,8 @@
 -- Readings that go on to their end.
 use Rattle.std.proofs.Common.{◌≡◌, Option, Some, None, Result, Ok, Err, ok_or, refl}
 use Rattle.lbm_case.specs.declared.fault.CaseFault.{CaseFault}
-use Rattle.lbm_case.specs.Refusals.{◌>>=◌, refuse}
+use Rattle.lbm_model.specs.Refusals.{◌>>=◌}
+use Rattle.lbm_case.specs.Refusals.{refuse}
 
 -- what is read is what was found, and where nothing was refused nothing was found
 pub found : {A : Type 0} (o : Option A) (x : A) (fault : CaseFault) → ok_or o fault ≡ Ok x → o ≡ Some x

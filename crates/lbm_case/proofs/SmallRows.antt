@@ -9,7 +9,8 @@ use Rattle.lbm_case.specs.declared.key.Key.TheVariants.{Map}
 use Rattle.lbm_case.specs.declared.fault.CaseFault.TheVariants.{NotToml}
 use Rattle.lbm_case.specs.Keys.{name_of}
 use Rattle.lbm_case.specs.Settings.{each_in, texts_in, value_at, required}
-use Rattle.lbm_case.specs.Drawing.{IsSmall, row}
+use Rattle.lbm_case.specs.Views.{IsSmall}
+use Rattle.lbm_case.specs.Drawing.{row}
 use Rattle.lbm_case.specs.CaseOf.{table_of}
 use Rattle.lbm_case.proofs.Readings.{found}
 use Rattle.lbm_case.proofs.DataSizes.{size, items_size, members_size}

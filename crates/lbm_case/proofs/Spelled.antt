@@ -14,11 +14,12 @@ use Rattle.lbm_case.specs.declared.key.Key.{Key}
 use Rattle.lbm_case.specs.declared.key.Key.TheVariants.{Set, Omega, Map, Layers, Density, Digit, Momentum, Force, OmegaMinus, Wall}
 use Rattle.lbm_case.specs.declared.fault.CaseFault.{CaseFault}
 use Rattle.lbm_case.specs.declared.fault.CaseFault.TheVariants.{NotToml, UnknownKey, MissingKey, BadNumber, BadSet, EmptyMap, Ragged, BadChar, TooLarge}
-use Rattle.lbm_case.specs.Refusals.{refuse, demand}
+use Rattle.lbm_model.specs.Refusals.{demand}
+use Rattle.lbm_case.specs.Refusals.{refuse}
 use Rattle.lbm_case.specs.Settings.{Settings, unknown_key, missing_key, each_in, set_in, texts_in, integers_in, value_at, required, optional, zero_vector, settings_of}
 use Rattle.lbm_case.specs.Numbers.{bad_number}
 use Rattle.lbm_case.specs.Drawing.{width, ragged, strange_place}
-use Rattle.lbm_case.specs.CaseOf.{table_of, drawing_of, box_drawn, space_drawn, case_drawn, case_of}
+use Rattle.lbm_case.specs.CaseOf.{table_of, drawing_of, box_drawn, space_drawn, case_drawn, settings_in, case_in, case_of}
 use Rattle.lbm_case.specs.Laws.{SpellsCases}
 use Rattle.lbm_case.proofs.TextSizes.{stepped, chosen}
 use Rattle.lbm_case.proofs.Readings.{Reads, found, nothing_found, after, at_last}
@@ -97,26 +98,41 @@ IsCase-in_box set box s ready =
 
 -- ---- the whole reading
 
-IsCase-case_of : (bytes : List ℕ) → Reads IsCase (case_of bytes)
-unfolding case_of
-IsCase-case_of bytes =
-    after _ (ok_or (table_of bytes) NotToml) _ (λ table _.
+-- what has been found out of the keys, before the drawing is read
+record IsSettled (s : Settings) : Type 0 where
+  vectors : AreThreeParts s
+  ranged : bad_number s ≡ None
+
+IsSettled-settings_in : (table : Members) → Reads IsSettled (settings_in table)
+unfolding settings_in
+IsSettled-settings_in table =
     after _ (refuse UnknownKey (unknown_key table)) _ (λ known _.
     after _ (refuse MissingKey (missing_key table)) _ (λ complete _.
     after _ (settings_of table) _ (λ s is_settings.
     after _ (refuse BadNumber (bad_number s)) _ (λ ranged is_ranged.
+    at_last _ _ (record { vectors = (settings_three table).at s is_settings; ranged = nothing_found _ _ _ is_ranged })))))
+
+IsCase-case_in : (s : Settings) → IsSettled s → Reads IsCase (case_in s)
+unfolding case_in
+IsCase-case_in s settled =
     after _ (ok_or s.set BadSet) _ (λ set is_set.
     after _ (demand (nat_lt 0 (width (drawing_of s))) EmptyMap) _ (λ drawn _.
     after _ (refuse Ragged (ragged (unsigned_abs s.layers) (drawing_of s))) _ (λ even is_even.
     after _ (refuse (λ at. BadChar at.0 at.1) (strange_place (drawing_of s))) _ (λ clear _.
     after _ (ok_or (space_drawn set s) TooLarge) _ (λ box is_box.
     at_last _ _ (IsCase-in_box set box s (record {
-      vectors = (settings_three table).at s is_settings;
-      ranged = nothing_found _ _ _ is_ranged;
+      vectors = settled.vectors;
+      ranged = settled.ranged;
       named = found _ _ _ is_set;
       even = nothing_found _ _ _ is_even;
       space = found _ _ _ is_box;
-    }))))))))))))
+    })))))))
+
+IsCase-case_of : (bytes : List ℕ) → Reads IsCase (case_of bytes)
+unfolding case_of
+IsCase-case_of bytes =
+    after _ (ok_or (table_of bytes) NotToml) _ (λ table _.
+    after _ (settings_in table) _ (λ s is. IsCase-case_in s ((IsSettled-settings_in table).at s is)))
 
 pub spells-cases : SpellsCases
 spells-cases bytes case spelled = (IsCase-case_of bytes).at case spelled

@@ -11,7 +11,8 @@ use Rattle.lbm_model.specs.Sets.{stencil_of, case_of as flow_case}
 use Rattle.lbm_model.specs.declared.sets.SetKind.{SetKind}
 use Rattle.lbm_case.specs.declared.fault.CaseFault.{CaseFault}
 use Rattle.lbm_case.specs.declared.fault.CaseFault.TheVariants.{NotToml, UnknownKey, MissingKey, BadNumber, BadSet, EmptyMap, Ragged, BadChar, TooLarge}
-use Rattle.lbm_case.specs.Refusals.{◌>>=◌, refuse, demand}
+use Rattle.lbm_model.specs.Refusals.{◌>>=◌, demand}
+use Rattle.lbm_case.specs.Refusals.{refuse}
 use Rattle.lbm_case.specs.Settings.{Settings, unknown_key, missing_key, settings_of}
 use Rattle.lbm_case.specs.Numbers.{bad_number}
 use Rattle.lbm_case.specs.Drawing.{width, ragged, strange_place, box_of, is_space, cells_of, moving_in, density_of}
@@ -42,18 +43,29 @@ case_drawn set box s =
 abbrev pub IsFirstDensity : ℕ → Type 0
 IsFirstDensity n = n ≢ 0 → (442368 ≤ n) × (n ≤ 3569472)
 
--- The case that the bytes of a file spell, or the first of ten refusals, one a line: of the text, the keys, the kinds and
--- the ranges of their values, the velocity set, and the drawing.
-unfoldable pub case_of : List ℕ → Result FlowCase CaseFault
-case_of bytes = do
-  table ← ok_or (table_of bytes) NotToml
+-- What the keys of a document say, or the first of four refusals, one a line: of the keys, and of the kinds and the ranges of
+-- their values.
+unfoldable pub settings_in : Members → Result Settings CaseFault
+settings_in table = do
   known ← refuse UnknownKey (unknown_key table)
   complete ← refuse MissingKey (missing_key table)
   s ← settings_of table
   ranged ← refuse BadNumber (bad_number s)
+  Ok s
+
+-- The case that they draw, or the first of five refusals, one a line: of the velocity set and of the drawing.
+unfoldable pub case_in : Settings → Result FlowCase CaseFault
+case_in s = do
   set ← ok_or s.set BadSet
   drawn ← demand (nat_lt 0 (width (drawing_of s))) EmptyMap
   even ← refuse Ragged (ragged (unsigned_abs s.layers) (drawing_of s))
   clear ← refuse (λ at. BadChar at.0 at.1) (strange_place (drawing_of s))
   box ← ok_or (space_drawn set s) TooLarge
   Ok (case_drawn set box s)
+
+-- the case that the bytes of a file spell, or the first of ten refusals: they are no document, or those above
+unfoldable pub case_of : List ℕ → Result FlowCase CaseFault
+case_of bytes = do
+  table ← ok_or (table_of bytes) NotToml
+  s ← settings_in table
+  case_in s

@@ -1,5 +1,5 @@
 -- The lattice that the rows of a case file draw. A row is the list of its characters.
-use Rattle.std.specs.Prelude.{ℕ, ◌+◌, ◌-◌, ◌*◌, ◌/◌, ◌%◌, ◌^◌, ◌<◌, List, [], length, filter, position, slice_index, slice_index_or, Bool, not, ◌&&◌, ◌||◌, ◌==◌, nat_le, if◌then◌else◌, Option, Some, None, option_map, option_and_then}
+use Rattle.std.specs.Prelude.{ℕ, ◌+◌, ◌-◌, ◌*◌, ◌/◌, ◌%◌, List, [], length, filter, position, slice_index, slice_index_or, Bool, not, ◌&&◌, ◌||◌, ◌==◌, nat_le, if◌then◌else◌, Option, Some, None, option_map, option_and_then}
 use Rattle.std.specs.Option.{option_or}
 use Rattle.std.specs.List.{list_any, range_with_len, flat_map}
 use Rattle.lbm_space.specs.Torus.{Torus, torus, padded}
@@ -42,11 +42,6 @@ ragged layers rows = option_or (other_row rows) (undivided layers rows)
 -- the first row with a character that stands for no cell, and its first such column
 abbrev pub strange_place : List (List ℕ) → Option (ℕ × ℕ)
 strange_place rows = option_and_then (λ r. option_map (λ x. (r, x)) (position is_strange (row rows r))) (position (list_any is_strange) rows)
-
--- rows whose numbers, and the numbers of whose columns, have at most 32 bits
-pub record IsSmall (rows : List (List ℕ)) : Type 0 where
-  pub few : length rows < 2 ^ 32
-  pub short : (r : ℕ) → length (row rows r) < 2 ^ 32
 
 -- the box that the rows fill, in so many layers
 abbrev pub box_of : ℕ → ℕ → List (List ℕ) → Torus

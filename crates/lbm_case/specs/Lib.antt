@@ -4,6 +4,6 @@ pub mod Settings
 pub mod Views
 pub mod Numbers
 pub mod Drawing
-pub mod Moving
 pub mod CaseOf
+pub mod Causes
 pub mod Laws

@@ -1,10 +1,10 @@
 -- The ranges of the numbers of a case file.
-use Rattle.std.specs.Prelude.{ℕ, List, Bool, true, false, not, ◌&&◌, ◌||◌, nat_le, if◌then◌else◌, ℤ, pos, ◌*ℤ◌, int_le, int_lt, unsigned_abs, Option, Some, None, find}
+use Rattle.std.specs.Prelude.{ℕ, List, Bool, true, false, not, ◌&&◌, ◌||◌, ◌==◌, nat_le, if◌then◌else◌, ℤ, pos, ◌*ℤ◌, int_le, int_lt, unsigned_abs, Option, Some, None, find}
 use Rattle.std.specs.List.{list_all}
 use Rattle.std.specs.Ordering.{int_eq}
 use Rattle.lbm_space.specs.Stencil.{part}
 use Rattle.lbm_model.specs.declared.sets.SetKind.{SetKind}
-use Rattle.lbm_model.specs.declared.sets.SetKind.TheVariants.{D2Q9, D3Q19}
+use Rattle.lbm_model.specs.Sets.{stencil_of}
 use Rattle.lbm_case.specs.declared.key.Key.{Key}
 use Rattle.lbm_case.specs.declared.key.Key.TheVariants.{Set, Omega, Map, Layers, Density, Digit, Momentum, Force, OmegaMinus, Wall}
 use Rattle.lbm_case.specs.Keys.{all_keys}
@@ -12,8 +12,7 @@ use Rattle.lbm_case.specs.Settings.{Settings}
 
 -- whether the velocity set is one of the plane
 abbrev pub is_plane : Option SetKind → Bool
-is_plane (Some D2Q9) = true
-is_plane (Some D3Q19) = false
+is_plane (Some set) = (stencil_of set).dimension == 2
 is_plane None = false
 
 -- whether n is from low to high

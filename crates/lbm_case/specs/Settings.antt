@@ -1,19 +1,18 @@
 -- What the table of a case file holds: the kind of the value at each key, and what stands for an absent key.
-use Rattle.std.specs.Prelude.{ℕ, List, [], ◌∷◌, not, length, ◌==◌, if◌then◌else◌, codes, ℤ, pos, Option, Some, None, option_and_then, option_map, is_none, find, filter, Result, Ok, ok_or}
-use Rattle.std.specs.Str.{bytes_eq}
+use Rattle.std.specs.Prelude.{ℕ, List, [], ◌∷◌, not, length, ◌==◌, if◌then◌else◌, ℤ, pos, Option, Some, None, option_and_then, option_map, is_none, find, filter, Result, Ok, ok_or}
 use Rattle.std.specs.Option.{option_map_or}
 use Rattle.std.specs.Ordering.{nat_cmp, is_lt}
 use Rattle.std.specs.Cmp.Lexicographic.{slice_cmp}
 use Rattle.toml.specs.Data.{Data, Items, no_items, item, Members, no_members, member, get_member, as_str, as_integer, as_array}
 use Rattle.lbm_space.specs.Stencil.{part}
 use Rattle.lbm_model.specs.declared.sets.SetKind.{SetKind}
-use Rattle.lbm_model.specs.declared.sets.SetKind.TheVariants.{D2Q9, D3Q19}
+use Rattle.lbm_model.specs.Sets.{set_named}
 use Rattle.lbm_case.specs.declared.key.Key.{Key}
 use Rattle.lbm_case.specs.declared.key.Key.TheVariants.{Set, Omega, Map, Layers, Density, Digit, Momentum, Force, OmegaMinus, Wall}
 use Rattle.lbm_case.specs.declared.fault.CaseFault.{CaseFault}
 use Rattle.lbm_case.specs.declared.fault.CaseFault.TheVariants.{WrongKind}
 use Rattle.lbm_case.specs.Keys.{name_of, required_keys, is_known}
-use Rattle.lbm_case.specs.Refusals.{◌>>=◌}
+use Rattle.lbm_model.specs.Refusals.{◌>>=◌}
 
 -- the names in a table
 abbrev pub names_in : Members → List (List ℕ)
@@ -44,10 +43,6 @@ missing_key table = find (λ key. is_none (value_at key table)) required_keys
 abbrev pub each_in : {A : Type 0} → (Data → Option A) → Items → Option (List A)
 each_in form no_items = Some []
 each_in form (item value rest) = option_and_then (λ x. option_map (λ xs. x ∷ xs) (each_in form rest)) (form value)
-
--- the velocity set of a name, if there is one
-abbrev pub set_named : List ℕ → Option SetKind
-set_named name = if bytes_eq name (codes "D2Q9") then Some D2Q9 else if bytes_eq name (codes "D3Q19") then Some D3Q19 else None
 
 -- the kinds: a text, with the velocity set that it names; an array of texts; an array of exactly n integers
 abbrev pub set_in : Data → Option (Option SetKind)

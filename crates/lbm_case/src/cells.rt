@@ -1,10 +1,9 @@
 //! The cells of a drawing.
 
-ghost use Rattle.std.specs.Prelude.{◌≡◌, ◌+◌, ◌*◌, ◌^◌, ◌<◌, [], ◌∷◌, ◌++◌, length, map, IfOk, OnOk};
+ghost use Rattle.std.specs.Prelude.{◌≡◌, ◌+◌, ◌*◌, ◌^◌, ◌<◌, ◌==◌, [], ◌∷◌, ◌++◌, length, map, if◌then◌else◌, IfOk, OnOk};
 ghost use Rattle.std.specs.Str.{chars};
 ghost use Rattle.lbm_case.specs.Views.{drawing_view};
-ghost use Rattle.lbm_case.specs.Drawing.{cells_of, density_of, moving_in};
-ghost use Rattle.lbm_case.specs.Moving.{moving_from};
+ghost use Rattle.lbm_case.specs.Drawing.{equals, cells_of, density_of, moving_in};
 
 use crate::rows::text_of;
 use std::alloc::{AllocError, Global};
@@ -58,7 +57,7 @@ pub(crate) fn densities_of(
 
 /// Adds the number of a cell that moves.
 fn push_if_moving(moving: &mut Vec<u32>, number: u32, c: char) -> Result<(), AllocError>
-    ensures { OnOk result (moving.new.items ≡ moving.old.items ++ moving_from number (c ∷ [])) }
+    ensures { OnOk result (moving.new.items ≡ moving.old.items ++ (if c == equals then number ∷ [] else [])) }
 {
     if c == '=' {
         moving.push(number)?;
@@ -70,7 +69,7 @@ fn push_if_moving(moving: &mut Vec<u32>, number: u32, c: char) -> Result<(), All
 /// after its last.
 fn push_moving(moving: &mut Vec<u32>, first: u32, text: &str) -> Result<u32, AllocError>
     requires { first + length (chars text.now) < 2 ^ 32 }
-    ensures items { OnOk result (moving.new.items ≡ moving.old.items ++ moving_from first (chars text.now)) }
+    ensures items { OnOk result (moving.new.items ≡ moving.old.items ++ map (λ x. first + x) (moving_in (chars text.now))) }
     ensures next { IfOk result (λ next. next ≡ first + length (chars text.now)) }
 {
     let mut number = first;

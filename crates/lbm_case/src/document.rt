@@ -3,8 +3,9 @@
 ghost use Rattle.std.specs.Prelude.{◌≡◌, not, is_none, ok_or, option_map, string_bytes};
 ghost use Rattle.toml.specs.View.{table_view};
 ghost use Rattle.lbm_case.specs.Keys.{is_known};
-ghost use Rattle.lbm_case.specs.Refusals.{Gives, refuse};
+ghost use Rattle.lbm_case.specs.Refusals.{refuse};
 ghost use Rattle.lbm_case.specs.Settings.{unknown_key, missing_key, value_at};
+ghost use Rattle.lbm_case.specs.Views.{Gives};
 ghost use Rattle.lbm_case.specs.CaseOf.{table_of};
 
 use crate::fault::{CaseEnd, CaseFault, KeyName};

@@ -4,7 +4,6 @@ ghost use Rattle.std.specs.Prelude.{◌≡◌, ◌⊎◌, ◌<◌, ◌≤◌, Li
 ghost use Rattle.lbm_space.specs.Stencil.{part};
 ghost use Rattle.lbm_space.specs.Torus.{IsSpace, torus};
 ghost use Rattle.lbm_cell.specs.Collision.{rates};
-ghost use Rattle.lbm_model.specs.Sets.{stencil_of};
 ghost use Rattle.lbm_case.specs.Views.{settings_view};
 ghost use Rattle.lbm_case.specs.Numbers.{bad_number};
 ghost use Rattle.lbm_case.specs.Drawing.{ragged};
@@ -18,16 +17,6 @@ use lbm_cell::{Force, Rates};
 use lbm_model::{Case, SetKind};
 use lbm_space::Space;
 use std::alloc::{AllocError, Global};
-
-/// The dimension of a velocity set.
-fn dimension(set: SetKind) -> usize
-    ensures { result ≡ (stencil_of set).dimension }
-{
-    match set {
-        SetKind::D2Q9 => 2,
-        SetKind::D3Q19 => 3,
-    }
-}
 
 /// A box with these sides, or `None` where it is not allowed.
 fn space_of(dim: usize, nx: usize, ny: usize, nz: usize) -> Option<Space>
@@ -47,7 +36,7 @@ pub(crate) fn space_drawn(set: SetKind, settings: &Settings) -> Option<Space>
 {
     let layers = layers(settings);
     let rows = settings.rows;
-    space_of(dimension(set), width(rows), rows.len() / layers, layers)
+    space_of(set.dimension(), width(rows), rows.len() / layers, layers)
 }
 
 /// The rates of the file.

@@ -15,6 +15,3 @@ mod settings;
 pub use fault::{CaseEnd, CaseFault, KeyName};
 pub use key::Key;
 pub use read::read_case;
-
-#[cfg(test)]
-mod tests;

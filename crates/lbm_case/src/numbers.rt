@@ -3,8 +3,8 @@
 ghost use Rattle.std.specs.Prelude.{◌≡◌, ◌<◌, not, nat_le, pos, unsigned_abs, None, OnOk};
 ghost use Rattle.std.specs.List.{list_all};
 ghost use Rattle.std.specs.Ordering.{int_eq};
-ghost use Rattle.lbm_case.specs.Refusals.{Gives, refuse};
-ghost use Rattle.lbm_case.specs.Views.{settings_view};
+ghost use Rattle.lbm_case.specs.Refusals.{refuse};
+ghost use Rattle.lbm_case.specs.Views.{settings_view, Gives};
 ghost use Rattle.lbm_case.specs.Numbers.{is_plane, is_between, is_rate, is_vector, is_in_range, bad_number};
 
 use crate::fault::{CaseEnd, CaseFault};
@@ -18,8 +18,8 @@ fn is_plane(set: Option<SetKind>) -> bool
     ensures { result ≡ is_plane set }
 {
     match set {
-        Some(SetKind::D2Q9) => true,
-        Some(SetKind::D3Q19) | None => false,
+        Some(set) => set.dimension() == 2,
+        None => false,
     }
 }
 

@@ -3,9 +3,10 @@
 ghost use Rattle.std.specs.Prelude.{◌≡◌, ◌<◌, ◌==◌, not, nat_lt, length, position, None, OnOk};
 ghost use Rattle.std.specs.Str.{chars};
 ghost use Rattle.toml.specs.View.{view};
-ghost use Rattle.lbm_case.specs.Refusals.{Gives, refuse, demand};
-ghost use Rattle.lbm_case.specs.Views.{text_of, drawing_view};
-ghost use Rattle.lbm_case.specs.Drawing.{is_strange, width, other_row, undivided, ragged, strange_place, IsSmall};
+ghost use Rattle.lbm_model.specs.Refusals.{demand};
+ghost use Rattle.lbm_case.specs.Refusals.{refuse};
+ghost use Rattle.lbm_case.specs.Views.{text_of, drawing_view, Gives, IsSmall};
+ghost use Rattle.lbm_case.specs.Drawing.{is_strange, width, other_row, undivided, ragged, strange_place};
 
 use crate::fault::{CaseEnd, CaseFault};
 use toml::Value;

@@ -4,9 +4,8 @@ ghost use Rattle.std.specs.Prelude.{◌≡◌, map, option_map, is_some, Ok, IfO
 ghost use Rattle.std.specs.List.{list_all};
 ghost use Rattle.toml.specs.Data.{array, as_integer, as_str};
 ghost use Rattle.toml.specs.View.{view, items_view, table_view};
-ghost use Rattle.lbm_case.specs.Refusals.{Gives};
-ghost use Rattle.lbm_case.specs.Settings.{value_at, set_named, set_in, texts_in, integers_in, required, optional, settings_of, zero_vector};
-ghost use Rattle.lbm_case.specs.Views.{text_of, texts_view, settings_view};
+ghost use Rattle.lbm_case.specs.Settings.{value_at, set_in, texts_in, integers_in, required, optional, settings_of, zero_vector};
+ghost use Rattle.lbm_case.specs.Views.{text_of, texts_view, settings_view, Gives};
 
 use crate::fault::{CaseEnd, CaseFault};
 use crate::key::Key;
@@ -53,23 +52,12 @@ fn wrong_kind(key: Key) -> CaseEnd
     CaseEnd::Fault(CaseFault::WrongKind(key))
 }
 
-/// The velocity set of a name.
-fn set_named(name: &str) -> Option<SetKind>
-    ensures { result ≡ set_named name.now }
-{
-    match name {
-        "D2Q9" => Some(SetKind::D2Q9),
-        "D3Q19" => Some(SetKind::D3Q19),
-        _ => None,
-    }
-}
-
 /// The velocity set that a text names, or `None` where the value is no text.
 fn set_in(value: &Value) -> Option<Option<SetKind>>
     ensures { result ≡ set_in (view value.now) }
 {
     match value {
-        Value::String(name) => Some(set_named(name.as_str())),
+        Value::String(name) => Some(SetKind::named(name.as_str())),
         _ => None,
     }
 }

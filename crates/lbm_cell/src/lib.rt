@@ -20,6 +20,3 @@ pub use moments::{in_limits, moment};
 pub use populations::{MAX_Q, Moment, Pops, UNIT};
 pub use rates::Rates;
 pub use reflection::bounce;
-
-#[cfg(test)]
-mod tests;

@@ -9,7 +9,8 @@ use Rattle.lbm_model.specs.State.{FlowState, flow_state}
 use Rattle.lbm_ckpt.specs.declared.version.Version.{Version}
 use Rattle.lbm_ckpt.specs.declared.fault.CkptFault.{CkptFault}
 use Rattle.lbm_ckpt.specs.declared.fault.CkptFault.TheVariants.{Short, Magic, OtherCase, Size, Step, Digest, Wide}
-use Rattle.lbm_ckpt.specs.Ckpt.{◌>>=◌, demand, checkpoint_of, is_short, version_of, case_digest_of, is_fitting, step_of, seal_of, content_of, is_narrow, populations_of}
+use Rattle.lbm_model.specs.Refusals.{◌>>=◌, demand}
+use Rattle.lbm_ckpt.specs.Ckpt.{checkpoint_of, is_short, version_of, case_digest_of, is_fitting, step_of, seal_of, content_of, is_narrow, populations_of}
 
 -- the tests that a file of this version passes
 pub record Passes (digest : List ℕ) (space : Torus) (q : ℕ) (bytes : List ℕ) (version : Version) : Type 0 where

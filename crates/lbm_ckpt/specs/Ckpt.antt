@@ -6,6 +6,7 @@ use Rattle.std.specs.Simd.{first_chunks}
 use Rattle.std.specs.Str.{bytes_eq}
 use Rattle.sha2.specs.Sha256.{sha256}
 use Rattle.lbm_space.specs.Torus.{Torus, cells}
+use Rattle.lbm_model.specs.Refusals.{◌>>=◌, demand}
 use Rattle.lbm_model.specs.State.{FlowState, flow_state}
 use Rattle.lbm_ckpt.specs.declared.version.Version.{Version}
 use Rattle.lbm_ckpt.specs.declared.version.Version.TheVariants.{One, Two}
@@ -113,17 +114,6 @@ is_fitting version space q bytes = bytes_eq (box_of version bytes) (box version 
 
 abbrev pub is_narrow : ℤ → Bool
 is_narrow z = nat_le (unsigned_abs z) (2 ^ 28)
-
--- what is read goes on to f, and a refusal ends the reading
-infixl 10 ◌>>=◌
-abbrev pub ◌>>=◌ : {A B : Type 0} → Result A CkptFault → (A → Result B CkptFault) → Result B CkptFault
-(Ok x) >>= f = f x
-(Err fault) >>= f = Err fault
-
--- a refusal where a test fails
-abbrev pub demand : Bool → CkptFault → Result (Unit {0}) CkptFault
-demand true fault = Ok tt
-demand false fault = Err fault
 
 -- The step and the state of a file of either version, for a case with this digest, this box and this number of directions,
 -- or the first of seven refusals, one a line.

@@ -1,4 +1,4 @@
--- What a hasher does that is fed.
+-- What a hasher does that is fed. For private functions alone: no public contract rests on it.
 use Rattle.std.specs.Prelude.{ℕ, List, ◌++◌}
 use Rattle.sha2.specs.Hashers.{Holds256}
 use Rattle.sha2.specs.declared.Sha256.{Sha256}

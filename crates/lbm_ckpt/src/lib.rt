@@ -22,6 +22,3 @@ mod write;
 pub use fault::{CkptEnd, CkptFault};
 pub use read::read_checkpoint;
 pub use write::{checkpoint_size, write_checkpoint};
-
-#[cfg(test)]
-mod tests;

@@ -5,11 +5,11 @@ use Rattle.lbm_model.specs.State.{FlowState}
 use Rattle.lbm_model.specs.Flow.{IsStateOf, run, reached}
 use Rattle.lbm_model.specs.Standing.{Standing}
 use Rattle.lbm_model.proofs.Mass.{IsStateOf-next}
-use Rattle.lbm_flow.specs.declared.finish.Left.{Left}
-use Rattle.lbm_flow.specs.Reports.{printed_moments, run_report}
-use Rattle.lbm_flow.specs.Outcome.{Beginning, run_from}
+use Rattle.lbm_answer.specs.declared.left.Left.{Left}
+use Rattle.lbm_answer.specs.Reports.{printed_moments, run_report}
+use Rattle.lbm_answer.specs.Outcome.{Beginning, run_from}
+use Rattle.lbm_answer.specs.Jobs.{CanBegin, Leaves, LeavesOf}
 use Rattle.lbm_flow.specs.Running.{RunGives, after}
-use Rattle.lbm_flow.specs.Jobs.{CanBegin, Leaves, LeavesOf}
 
 -- a pattern that stands for where a run begins
 abbrev pub at_beginning : FlowCase → Beginning → Standing

@@ -8,17 +8,7 @@ use Rattle.lbm_model.specs.declared.pattern.StepEnd.{StepEnd}
 use Rattle.lbm_model.specs.declared.pattern.StepEnd.TheVariants as step_ends
 use Rattle.lbm_flow.specs.declared.run.RunEnd.TheVariants.{Range}
 use Rattle.lbm_flow.specs.Running.{Went, RunGives, after, ended}
-
--- a run that ends at once, and one that goes on
-pub run-range : (case : FlowCase) (s : FlowState) (time steps cell : ℕ) → out_of_limits case s ≡ Some cell → run case s time steps ≡ range time cell
-run-range case s time zero cell unsound = rw (run, unsound) refl
-run-range case s time (suc steps) cell unsound = rw (run, unsound) refl
-
-pub run-step : (case : FlowCase) (s : FlowState) (time steps : ℕ) → out_of_limits case s ≡ None → run case s time (suc steps) ≡ run case (next case s) (time + 1) steps
-run-step case s time steps sound = rw (run, sound) refl
-
-pub run-end : (case : FlowCase) (s : FlowState) (time : ℕ) → out_of_limits case s ≡ None → run case s time 0 ≡ reached s
-run-end case s time sound = rw (run, sound) refl
+use Rattle.lbm_answer.proofs.Runs.{run-range, run-step, run-end}
 
 -- after n steps from states in limits a run goes on from the state that they make
 pub run-after : (case : FlowCase) (s : FlowState) (time n more : ℕ) → ((k : ℕ) → k < n → out_of_limits case (after case s k) ≡ None)

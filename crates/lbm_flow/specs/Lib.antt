@@ -1,12 +1,3 @@
-pub mod Gen
 pub mod Causes
 pub mod Lattices
 pub mod Running
-pub mod Reports
-pub mod Outcome
-pub mod Lines
-pub mod Answer
-pub mod Complete
-pub mod Files
-pub mod Jobs
-pub mod Laws

@@ -2,9 +2,9 @@
 ghost use Rattle.std.specs.Prelude.{◌≡◌, ◌⊎◌, map, string_bytes};
 ghost use Rattle.lbm_store.specs.Memory.{sure_files, sure_sink, sure_store};
 ghost use Rattle.lbm_words.specs.Words.{request_of};
-ghost use Rattle.lbm_flow.specs.declared.answer.End.TheVariants.{Memory};
-ghost use Rattle.lbm_flow.specs.Answer.{Answers};
-ghost use Rattle.lbm_flow.specs.Complete.{answer_to};
+ghost use Rattle.lbm_answer.specs.declared.answer.End.TheVariants.{Memory};
+ghost use Rattle.lbm_answer.specs.Answer.{Answers};
+ghost use Rattle.lbm_answer.specs.Complete.{answer_to};
 
 use crate::{End, run_words};
 use lbm_model::Gate;

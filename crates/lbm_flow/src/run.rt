@@ -1,9 +1,10 @@
 // A run of a lattice.
 ghost use Rattle.std.specs.Prelude.{◌≡◌, ◌≤◌, IsNone, false};
 ghost use Rattle.lbm_flow.specs.Lattices.{standing_of};
+ghost use Rattle.lbm_flow.specs.Causes.{run_end};
 ghost use Rattle.lbm_flow.specs.Running.{RunGives, ended};
 
-use crate::Lattice;
+use crate::{End, Lattice};
 use lbm_model::{Gate, Pattern, StepEnd};
 use lbm_space::VelocitySet;
 use std::alloc::Allocator;
@@ -31,12 +32,23 @@ impl RunEnd {
     }
 }
 
+impl From<RunEnd> for End {
+    ghost from_gives = { λ why e. e ≡ run_end why };
+
+    fn from(why: RunEnd) -> Self {
+        match why {
+            RunEnd::Range { step, cell } => End::Range { step, cell },
+            RunEnd::Memory => End::Memory,
+        }
+    }
+}
+
 /// Steps a lattice until its time is `steps`, which is at most 1,000,000, and tests the state that it then stands for. The
 /// lattice is not spent, and its time is at most `steps`. The gate is entered once before each piece of a step.
 ///
 /// `Range` names the least step, and in it the least cell, that is out of limits. Where that step is below `steps`, the
 /// lattice is spent; otherwise it stands for the state that is out of limits. `Memory` comes only from a pattern whose
-/// steps want memory, so from none of these.
+/// steps want memory (`WANTS_MEMORY`), so from none of these.
 pub fn run_pattern<V: VelocitySet + Sync, A: Allocator, R: Threads + Sync, G: Gate>(
     rt: &R,
     lattice: &mut Lattice<V, A>,
@@ -46,7 +58,8 @@ pub fn run_pattern<V: VelocitySet + Sync, A: Allocator, R: Threads + Sync, G: Ga
     requires unspent { IsNone (standing_of lattice.old).spent }
     requires ahead { (standing_of lattice.old).time ≤ steps }
     requires few { steps ≤ 1000000 }
-    ensures { RunGives false (standing_of lattice.old) (standing_of lattice.new) steps result }
+    ensures run { RunGives ⟦<Lattice<V, A> as Pattern>⟧.WANTS_MEMORY (standing_of lattice.old) (standing_of lattice.new) steps result }
+    ensures no_memory { ⟦<Lattice<V, A> as Pattern>⟧.WANTS_MEMORY ≡ false }
 {
     for step in lattice.time()..steps {
         if let Err(end) = lattice.step(rt, gate) {

@@ -1,25 +1,16 @@
 // The top call.
-ghost use Rattle.std.specs.Prelude.{◌≡◌, ◌≤◌, map, string_bytes, IfOk};
-ghost use Rattle.lbm_words.specs.Request.{IsRun, IsDemo, run, check, demo, run_view, check_view, demo_view};
+ghost use Rattle.std.specs.Prelude.{◌≡◌, map, string_bytes};
+ghost use Rattle.lbm_words.specs.Request.{IsRun, IsDemo, run, demo, run_view, demo_view};
 ghost use Rattle.lbm_words.specs.Words.{request_of};
-ghost use Rattle.lbm_flow.specs.Answer.{Answers, Decides, DecidesFor, asked_of};
-ghost use Rattle.lbm_flow.specs.Complete.{IsComplete};
-ghost use Rattle.lbm_flow.specs.Reports.{check_report, solid_below};
-ghost use Rattle.lbm_space.specs.Torus.{cells};
-ghost use Rattle.lbm_flow.specs.declared.report.Report.TheVariants as Report;
+ghost use Rattle.lbm_answer.specs.Answer.{Answers, Decides, DecidesFor, asked_of};
+ghost use Rattle.lbm_answer.specs.Complete.{IsComplete};
 
-use crate::begin::first_of;
-use crate::files::case_bytes;
-use crate::job::{Job, do_job};
-use crate::state::directions;
-use crate::sums::mass;
-use crate::tell::tell;
-use crate::{CheckReport, End, Report, gen_case};
-use lbm_case::read_case;
-use lbm_model::{Case, Gate};
-use lbm_space::Memory;
+use crate::job::do_job;
+use crate::{End, Report, gen_case};
+use lbm_answer::{Job, case_bytes, decide_check, tell};
+use lbm_model::Gate;
 use lbm_store::{Sink, Store};
-use lbm_words::{Check, Demo, Request, Run, request_of};
+use lbm_words::{Demo, Request, Run, request_of};
 use std::alloc::{Allocator, Global};
 use std::marker::Sync;
 use std::thread::Threads;
@@ -132,43 +123,4 @@ fn decide_demo<T: Store, A: Allocator + Copy, G: Gate, R: Threads + Sync>(
         format,
     };
     do_job(rt, alloc, heap, &job, store, gate)
-}
-
-fn decide_check<T: Store>(alloc: Global, request: Check<'_>, store: &mut T) -> Result<Report, End>
-    ensures { DecidesFor (asked_of (check (check_view request.entry))) (T.state store.old) (T.state store.new) result }
-{
-    let bytes = case_bytes(alloc, store, request.case)?;
-    let case = read_case(alloc, &bytes)?;
-    Ok(Report::Check(report_of(alloc, &case)?))
-}
-
-// What a check tells of a case.
-fn report_of(alloc: Global, case: &Case) -> Result<CheckReport, Memory>
-    ensures { IfOk result (λ report. Report.Check report ≡ check_report case.now) }
-{
-    let first = first_of(alloc, case)?;
-    let solid = solid_cells(case);
-    let space = case.space();
-    Ok(CheckReport {
-        dimension: space.dim() as u32,
-        directions: directions(case.set()),
-        sides: space.sides(),
-        fluid: space.cells() - solid,
-        solid,
-        mass: mass(&first),
-    })
-}
-
-// How many cells are solid.
-fn solid_cells(case: &Case) -> u32
-    ensures count { result ≡ solid_below case.now (cells case.now.torus) }
-    ensures few { result ≤ cells case.now.torus }
-{
-    let mut count = 0;
-    for cell in 0..case.space().cells() {
-        if case.is_solid(cell) {
-            count += 1;
-        }
-    }
-    count
 }

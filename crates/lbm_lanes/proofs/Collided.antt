@@ -1,15 +1,19 @@
 -- A pair of directions of a lane, whether it collides or not.
-use Rattle.std.proofs.Common.{◌≡◌, ℕ, ◌+◌, ◌-◌, ◌*◌, ◌<◌, ◌≤◌, Bool, true, false, List, ℤ, pos, ◌+ℤ◌, ◌-ℤ◌, ◌*ℤ◌, ◌≤ℤ◌, unsigned_abs, refl, ap, arith, lit<, ◌∙◌}
-use Rattle.std.specs.Prelude.{if◌then◌else◌}
-use Rattle.std.proofs.lemmas.Int.{ints}
+use Rattle.std.proofs.Common.{◌≡◌, ℕ, ◌+◌, ◌-◌, ◌*◌, ◌<◌, ◌≤◌, Bool, true, false, List, ℤ, pos, ◌+ℤ◌, ◌-ℤ◌, ◌*ℤ◌, ◌≤ℤ◌, unsigned_abs, ◌^◌, refl, ap, sym, arith, lit<, ◌∙◌, replicate, eqb}
+use Rattle.std.specs.Int.{w64}
+use Rattle.std.proofs.lemmas.Simd.{get_or-replicate}
+use Rattle.std.proofs.lemmas.Bool.{ne_eqb}
+use Rattle.lbm_lanes.specs.Lanes.{entry}
+use Rattle.std.specs.Prelude.{if◌then◌else◌, FitsSigned, ◌==◌}
+use Rattle.std.proofs.lemmas.Int.{ints, fits_signed_from_abs}
 use Rattle.std.proofs.lemmas.Nat.{mul-le}
 use Rattle.std.proofs.Math.Nat.{mul-le-mul_right}
 use Rattle.lbm_space.specs.Stencil.{Stencil, dot, velocity, weight, opposite, moving_axes, IsVelocitySet}
 use Rattle.lbm_cell.specs.Moments.{momentum}
-use Rattle.lbm_cell.specs.Collision.{RelaxationRates, IsRates}
+use Rattle.lbm_cell.specs.Collision.{RelaxationRates, IsRates, collision}
 use Rattle.lbm_cell.proofs.Bounds.{one_at_most, dot_size, dot-same}
 use Rattle.lbm_cell.proofs.Limits.{InLimits-from_test, moves, denominator_above}
-use Rattle.lbm_lanes.specs.Cells.{IsSound, IsCell, lowered, own_square}
+use Rattle.lbm_lanes.specs.Cells.{IsSound, IsCell, lowered, own_square, moved, settled}
 use Rattle.lbm_lanes.specs.Pairs.{IsLane, change}
 use Rattle.lbm_lanes.proofs.PairCells.{IsNumbered, opposite_dot}
 
@@ -115,21 +119,47 @@ module _ (v : Stencil) (rates : RelaxationRates) (h : ℕ → ℤ) (i w d p m q 
       turned_is : (raised : ℕ) → raised ≤ 16777216 → pos 8388608 -ℤ pos raised ≡ pos (16777216 - raised) -ℤ pos 8388608
       turned_is raised most = omega (arith, ints, most)
 
+-- a lane of zeros
+pub zero_lane : (l : ℕ) → l < 8 → entry (replicate 8 (pos 0)) l ≡ pos 0
+zero_lane l known = get_or-replicate 8 l (pos 0) (pos 0) known
+
+pub small_fits : (z : ℤ) → unsigned_abs z ≤ 4294967296 → FitsSigned w64 z
+small_fits z small = fits_signed_from_abs w64 z (omega (arith, small))
+
+pub zero_fits : (l : ℕ) → l < 8 → FitsSigned w64 (entry (replicate 8 (pos 0)) l)
+zero_fits l known = small_fits (entry (replicate 8 (pos 0)) l) (omega (arith, ints, zero_lane l known))
+
+-- a population where its lane collides, and zero elsewhere
+pub held_from : (on : Bool) (a k z : ℤ) (f : ℕ) → k ≡ (if on then a else z) → z ≡ pos 0 → k ≡ pos f → f ≡ (if on then unsigned_abs a else 0)
+held_from true a k z f is none number = omega (arith, ints, is, number)
+held_from false a k z f is none number = omega (arith, ints, is, none, number)
+
+pub kept_above : (on : Bool) (a k z : ℤ) → k ≡ (if on then a else z) → z ≡ pos 0 → (on ≡ true → pos 0 ≤ℤ a) → pos 0 ≤ℤ k
+kept_above true a k z is none above = omega (arith, ints, is, above refl)
+kept_above false a k z is none above = omega (arith, ints, is, none)
+
+pub kept_small : (on : Bool) (a k z : ℤ) → k ≡ (if on then a else z) → z ≡ pos 0 → unsigned_abs a ≤ 2147483648 → unsigned_abs k < 4611686018427387904
+kept_small true a k z is none small = omega (arith, ints, is, small)
+kept_small false a k z is none small = omega (arith, ints, is, none)
+
 -- what a population becomes
-pub advanced_is : (chosen : Bool) (result a a' change change' push push' : ℤ) → result ≡ (if chosen then a +ℤ change +ℤ push else a) → a' ≡ a → (chosen ≡ true → change ≡ change') → push ≡ push' → result ≡ (if chosen then a' +ℤ change' +ℤ push' else a)
-advanced_is true result a a' change change' push push' is same changed pushed = rw (same, ← changed refl, ← pushed) is
-advanced_is false result a a' change change' push push' is same changed pushed = is
+pub moved_is : (result : ℤ) (x f : ℕ) (own change change' push push' : ℤ) → result ≡ pos x -ℤ pos 8388608 +ℤ push → pos x -ℤ pos 8388608 ≡ pos f +ℤ change → own ≡ pos f → change ≡ change' → push ≡ push' → result ≡ own +ℤ change' +ℤ push'
+moved_is result x f own change change' push push' is raised same changed pushed = omega (arith, ints, is, raised, same, changed, pushed)
 
-pub advanced_small : (chosen : Bool) (result a push : ℤ) (change : ℕ) → result ≡ (if chosen then a +ℤ (pos change -ℤ pos 8388608) +ℤ push else a) → unsigned_abs a ≤ 2147483648 → change < 16777216 → unsigned_abs push ≤ 663552 → unsigned_abs result ≤ 4294967296
-advanced_small true result a push change is small changed pushed = omega (arith, ints, is, small, changed, pushed)
-advanced_small false result a push change is small changed pushed = omega (arith, ints, is, small)
+pub lowered_small : (result : ℤ) (x : ℕ) (push : ℤ) → result ≡ pos x -ℤ pos 8388608 +ℤ push → x < 33554432 → unsigned_abs push ≤ 663552 → unsigned_abs result ≤ 4294967296
+lowered_small result x push is small pushed = omega (arith, ints, is, small, pushed)
 
--- the same change by the same density
-pub change_by : (w d p m q own raised f o rho rho' : ℕ) (z : ℤ) → rho ≡ rho' → z ≡ change w d p m q rho own raised f o → z ≡ change w d p m q rho' own raised f o
-change_by w d p m q own raised f o rho rho' z same is = is ∙ ap (λ (r : ℕ). change w d p m q r own raised f o) same
+-- what a lane is to become, by what is done with it
+pub settled_is : (v : Stencil) (r : RelaxationRates) (g : List ℤ) (on back : Bool) (h : ℕ → ℤ) (i : ℕ) (result moved' own other : ℤ) → 0 < i → result ≡ (if on then moved' else (if back then other else own)) → (on ≡ true → moved' ≡ moved v r g h i) → h i ≡ own → h (opposite v i) ≡ other →
+    result ≡ settled v r g on back h i
+settled_is v r g true back h i result moved' own other moving is moved_is same there =
+    let off : eqb i 0 ≡ false = ne_eqb i 0 (omega arith) in
+    let rest : collision v r g h i ≡ moved v r g h i = rw off refl in
+    is ∙ moved_is refl ∙ sym rest
+settled_is v r g false true h i result moved' own other moving is moved_is same there = is ∙ sym there
+settled_is v r g false false h i result moved' own other moving is moved_is same there = is ∙ sym same
 
-pub base_by : (base base' rho rho' own : ℕ) → base ≡ base' → rho ≡ rho' → base' + 3 * own ≡ 11 * (rho' * rho') → base + 3 * own ≡ 11 * (rho * rho)
-base_by base base' rho rho' own is_base is_rho is = rw (is_base, is_rho) is
-
-pub lane_by : (w d p m q n r r' own base base' raised f o : ℕ) → r ≡ r' → base ≡ base' → IsLane w d p m q n r' own base' raised f o → IsLane w d p m q n r own base raised f o
-lane_by w d p m q n r r' own base base' raised f o is_r is_base is = rw (is_r, is_base) is
+pub settled_small : (on back : Bool) (result moved' own other : ℤ) → result ≡ (if on then moved' else (if back then other else own)) → unsigned_abs moved' ≤ 4294967296 → unsigned_abs own ≤ 2147483648 → unsigned_abs other ≤ 2147483648 → unsigned_abs result ≤ 4294967296
+settled_small true back result moved' own other is a b c = omega (arith, ints, is, a)
+settled_small false true result moved' own other is a b c = omega (arith, ints, is, c)
+settled_small false false result moved' own other is a b c = omega (arith, ints, is, b)

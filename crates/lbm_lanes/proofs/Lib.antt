@@ -1,4 +1,3 @@
-mod Agreement
 mod Masks
 mod Operators
 mod Guess
@@ -11,5 +10,7 @@ mod PairLanes
 mod PairCells
 mod Ready
 mod Collided
-mod Assembled
-mod Paired
+mod Wrapping
+mod Summing
+mod Advancing
+mod Outcome

@@ -1,6 +1,6 @@
 -- Lanes of what operators make of vectors.
 use Rattle.std.proofs.Common.{◌≡◌, ℕ, zero, suc, ◌-◌, ◌^◌, ◌<◌, List, [], ◌∷◌, length, get_or, refl, ap, arith, ◌∙◌, sym}
-use Rattle.std.proofs.lemmas.Simd.{length-zip2, get_or-zip2, tops_compared, get_or-sel_l}
+use Rattle.std.proofs.lemmas.Simd.{length-zip2, get_or-zip2, tops_compared, get_or-sel_l, length-sel_l}
 use lib.Lanes.{zip2, Each2, sel_l, top}
 use lib.Dec.{ltb}
 use mathlib.Core.Bool.{cond, Bool, false}
@@ -42,3 +42,9 @@ lane_chosen n xs ys us vs long_x long_y long_u long_v l known =
     rw (tops_compared w64 ltb xs ys) (
     get_or-sel_l (zip2 ltb xs ys) us vs l 0 (omega (arith, long, known)) (omega (arith, long_u, known)) (omega (arith, long_v, known))
     ∙ ap (λ (b : Bool). cond b (get_or us l 0) (get_or vs l 0)) (lane_zip2 n ltb false xs ys long_x long_y l known))
+
+pub chosen_length : (n : ℕ) (xs ys us vs : List ℕ) → length xs ≡ n → length ys ≡ n → length us ≡ n → length vs ≡ n →
+    length (sel_l (map (top (hbits w64)) (zip2 (λ a b. cond (ltb a b) (2 ^ bits w64 - 1) 0) xs ys)) us vs) ≡ n
+chosen_length n xs ys us vs long_x long_y long_u long_v =
+    let long : length (zip2 ltb xs ys) ≡ n = length_zip2 n ltb xs ys long_x long_y in
+    rw (tops_compared w64 ltb xs ys) (length-sel_l (zip2 ltb xs ys) us vs (long ∙ sym long_u) (long ∙ sym long_v) ∙ long)

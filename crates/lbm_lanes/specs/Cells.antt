@@ -1,8 +1,8 @@
 -- The cells of a block that collide, by natural numbers.
-use Rattle.std.specs.Prelude.{◌≡◌, ℕ, ◌+◌, ◌*◌, ◌/◌, ◌≤◌, Bool, true, false, List, [], ◌∷◌, ℤ, pos, ◌+ℤ◌, ◌-ℤ◌, IsTrue, unsigned_abs, slice_index, slice_index_or}
+use Rattle.std.specs.Prelude.{◌≡◌, ℕ, ◌+◌, ◌*◌, ◌/◌, ◌≤◌, Bool, true, false, List, [], ◌∷◌, ℤ, pos, ◌+ℤ◌, ◌-ℤ◌, ◌≤ℤ◌, IsTrue, unsigned_abs, nat_lt, slice_index, if◌then◌else◌}
 use Rattle.lbm_space.specs.Stencil.{Stencil}
 use Rattle.lbm_cell.specs.Moments.{density, momentum, in_limits}
-use Rattle.lbm_cell.specs.Collision.{RelaxationRates, relaxation, push}
+use Rattle.lbm_cell.specs.Collision.{RelaxationRates, relaxation, push, collision, reflection}
 
 -- a vector whose parts are given raised by 2^23, and its square
 abbrev pub lowered : (x y z : ℕ) → List ℤ
@@ -28,11 +28,35 @@ pub record IsCell (v : Stencil) (h : ℕ → ℤ) (rho x y z : ℕ) : Type 0 whe
   pub density_is : density v h ≡ pos rho
   pub momentum_is : momentum v h ≡ lowered x y z
 
--- lane l of eight cells, which are h in that lane where it is chosen
-pub record IsReady (v : Stencil) (chosen : List Bool) (rho reciprocal base x y z : List ℕ) (l : ℕ) (h : ℕ → ℤ) : Type 0 where
-  pub sound : IsSound (slice_index rho l) (slice_index reciprocal l) (slice_index base l) (slice_index x l) (slice_index y l) (slice_index z l)
-  pub cell : slice_index_or chosen l false ≡ true → IsCell v h (slice_index rho l) (slice_index x l) (slice_index y l) (slice_index z l)
+-- whether a lane collides: in a mixed block where its flag is above 0, and in another block everywhere
+abbrev pub is_on : Bool → ℕ → Bool
+is_on mixed flag = if mixed then nat_lt 0 flag else true
+
+-- sums that are small, and those of a cell in limits where a lane collides
+pub record IsWithin (chosen : Bool) (rho x y z : ℤ) : Type 0 where
+  pub rho_small : unsigned_abs rho ≤ 57982058496
+  pub x_small : unsigned_abs x ≤ 57982058496
+  pub y_small : unsigned_abs y ≤ 57982058496
+  pub z_small : unsigned_abs z ≤ 57982058496
+  pub not_thin : chosen ≡ true → pos 442368 ≤ℤ rho
+  pub not_dense : chosen ≡ true → rho ≤ℤ pos 1769472
+  pub x_within : chosen ≡ true → unsigned_abs x ≤ unsigned_abs rho
+  pub y_within : chosen ≡ true → unsigned_abs y ≤ unsigned_abs rho
+  pub z_within : chosen ≡ true → unsigned_abs z ≤ unsigned_abs rho
+
+-- the numbers of a lane, whose cell has populations h, where it collides
+pub record IsReady (v : Stencil) (chosen : Bool) (rho reciprocal base x y z : ℕ) (h : ℕ → ℤ) : Type 0 where
+  pub sound : IsSound rho reciprocal base x y z
+  pub cell : chosen ≡ true → IsCell v h rho x y z
+
+-- what a lane becomes, by what is done with it
+abbrev pub settled : Stencil → RelaxationRates → List ℤ → (chosen solid : Bool) → (ℕ → ℤ) → ℕ → ℤ
+settled v r g chosen solid f = if chosen then collision v r g f else (if solid then reflection v f else f)
 
 -- a moving population after it has relaxed and been pushed
 abbrev pub moved : Stencil → RelaxationRates → List ℤ → (ℕ → ℤ) → ℕ → ℤ
 moved v r g h i = h i +ℤ relaxation v r h i +ℤ push v g i
+
+-- what lane l becomes, of a block whose lanes collide and turn back where they are flagged
+abbrev pub after : Stencil → RelaxationRates → List ℤ → (mixed : Bool) (colliding turning : List ℕ) (h : ℕ → ℕ → ℤ) → ℕ → ℕ → ℤ
+after v r g mixed colliding turning h l = settled v r g (is_on mixed (slice_index colliding l)) (nat_lt 0 (slice_index turning l)) (h l)

@@ -1,21 +1,16 @@
--- Eight cells in step. A block has a row of eight numbers for each direction, and a cell is a lane of it.
-use Rattle.std.specs.Prelude.{◌≡◌, ℕ, zero, suc, ◌/◌, ◌%◌, ◌^◌, ◌<◌, ◌==◌, Bool, not, ◌&&◌, Option, Some, None, List, [], length, ℤ, pos, slice_index_or, if◌then◌else◌}
+-- Eight cells in step: a lane of eight numbers for each cell.
+use Rattle.std.specs.Prelude.{◌≡◌, ℕ, zero, suc, ◌/◌, ◌%◌, ◌^◌, ◌<◌, ◌==◌, nat_lt, Bool, not, ◌&&◌, Option, Some, None, List, [], length, ℤ, pos, slice_index_or, if◌then◌else◌}
 use Rattle.lbm_space.specs.Stencil.{Stencil}
 use Rattle.lbm_cell.specs.Moments.{in_limits}
 use Rattle.lbm_cell.specs.Collision.{RelaxationRates, collision, reflection}
 
--- the eight numbers of direction i
-abbrev pub row : List (List ℤ) → ℕ → List ℤ
-row rows i = slice_index_or rows i []
+-- lane l of eight numbers
+abbrev pub entry : List ℤ → ℕ → ℤ
+entry xs l = slice_index_or xs l (pos 0)
 
--- the populations of the cell in lane j
-abbrev pub lane : List (List ℤ) → ℕ → ℕ → ℤ
-lane rows j i = slice_index_or (row rows i) j (pos 0)
-
--- a block has 27 rows of eight lanes
-pub record IsBlock (rows : List (List ℤ)) : Type 0 where
-  pub count : length rows ≡ 27
-  pub lanes : (i : ℕ) → i < 27 → length (row rows i) ≡ 8
+-- the populations of the cell in lane j, of n cells that take what is there: direction, then cell; a lane past them holds zeros
+abbrev pub held : (n : ℕ) (there : ℕ → ℕ → ℤ) → ℕ → ℕ → ℤ
+held n there j i = if nat_lt j n then there i j else pos 0
 
 -- whether lane j is in a mask, of which bit j stands for lane j
 abbrev pub has : ℕ → ℕ → Bool
@@ -37,10 +32,10 @@ abbrev pub least_passing : ℕ → (ℕ → Bool) → Option ℕ
 least_passing zero test = None
 least_passing (suc n) test = found_or (least_passing n test) (test n) n
 
--- whether lane j is a fluid cell out of limits
-abbrev pub is_out : Stencil → ℕ → List (List ℤ) → ℕ → Bool
-is_out v fluid rows j = has fluid j && not (in_limits v (lane rows j))
+-- whether lane j, of populations f j, is a fluid cell out of limits
+abbrev pub is_out : Stencil → ℕ → (ℕ → ℕ → ℤ) → ℕ → Bool
+is_out v fluid f j = has fluid j && not (in_limits v (f j))
 
 -- the least fluid lane out of limits
-abbrev pub least_out : Stencil → ℕ → List (List ℤ) → Option ℕ
-least_out v fluid rows = least_passing 8 (is_out v fluid rows)
+abbrev pub least_out : Stencil → ℕ → (ℕ → ℕ → ℤ) → Option ℕ
+least_out v fluid f = least_passing 8 (is_out v fluid f)

@@ -1,67 +1,135 @@
-//! The cells of a block that collide, as numbers in step.
+//! The cells of a block that collide, as natural numbers in step.
 
-ghost use Rattle.std.specs.Prelude.{◌≡◌, ◌<◌, ◌≤◌, ◌+◌, ◌*◌, ◌/◌, ℕ, ℤ, pos, ◌+ℤ◌, ◌-ℤ◌, ◌*ℤ◌, ◌≤ℤ◌, true, false, FitsSigned, IsTrue, slice_index, slice_index_or, unsigned_abs, ◌&&◌, not, ◌≢◌};
-ghost use Rattle.std.specs.Int.{w32};
+ghost use Rattle.std.specs.Prelude.{◌≡◌, ◌<◌, ◌≤◌, ◌+◌, ◌*◌, ◌/◌, ◌^◌, ℕ, ℤ, pos, ◌+ℤ◌, ◌-ℤ◌, ◌*ℤ◌, ◌≤ℤ◌, Bool, true, if◌then◌else◌, slice_index, unsigned_abs, nat_lt, FitsSigned};
+ghost use Rattle.std.specs.Int.{w64};
 ghost use Rattle.lbm_space.specs.Stencil.{part, dot};
-ghost use Rattle.lbm_cell.specs.Moments.{populations, in_limits, density, momentum};
-ghost use Rattle.lbm_lanes.specs.Cells.{IsSound, IsCell, IsReady, lowered, own_square};
-ghost use Rattle.lbm_lanes.specs.Lanes.{lane, has, least_out, IsBlock};
+ghost use Rattle.lbm_lanes.specs.Cells.{IsSound, IsWithin, is_on, lowered, own_square};
+ghost use Rattle.lbm_lanes.specs.Lanes.{entry, has};
 
-use crate::collision::found_or;
-use crate::lane::{has, lane};
-use crate::pair::Cells;
-use crate::vectors::{all, difference, sum};
-use lbm_cell::{Moment, in_limits, moment};
-use lbm_space::VelocitySet;
+use crate::moments::Sums;
+use crate::pair::{Cells, square};
+use crate::reciprocal::reciprocals;
+use crate::signed::{natural, picked, plus};
+use crate::vectors::{all, difference, multiple, product, sum};
 use std::simd::prelude::*;
 
-/// Which lanes collide, and for each its density with the reciprocal, its momentum raised by 2^23, and 11 rho^2
-/// less three times the square of the momentum. The other lanes have the numbers of a fluid at rest.
+/// Which lanes collide and which turn back, a flag above 0 each. Where a block is MIXED the flags are asked, and where
+/// it is not all lanes collide.
 #[derive(Clone, Copy)]
-pub(crate) struct Fluid {
-    pub(crate) chosen: [bool; 8],
-    pub(crate) rho: [u64; 8],
-    pub(crate) reciprocal: [u64; 8],
-    pub(crate) base: [u64; 8],
-    pub(crate) x: [u64; 8],
-    pub(crate) y: [u64; 8],
-    pub(crate) z: [u64; 8],
+pub(crate) struct Flags {
+    pub(crate) colliding: u64x8,
+    pub(crate) turning: u64x8,
 }
 
+/// Of each lane that collides its density with the reciprocal, its momentum raised by 2^23, and 11 rho^2 less three
+/// times the square of the momentum. The other lanes have the numbers of a fluid at rest.
+#[derive(Clone, Copy)]
+pub(crate) struct Fluid {
+    pub(crate) flags: Flags,
+    pub(crate) cells: Cells,
+    pub(crate) x: u64x8,
+    pub(crate) y: u64x8,
+    pub(crate) z: u64x8,
+}
+
+// A flag for each lane of a mask.
 #[inline]
-fn square(x: i64) -> u64
-    requires { unsigned_abs x ≤ 1769472 }
-    ensures value { result ≡ unsigned_abs x * unsigned_abs x }
-    ensures small { result ≤ 3131031158784 }
-    ensures within { (r : ℕ) → unsigned_abs x ≤ r → result ≤ r * r }
+pub(crate) fn flagged(mask: u8) -> u64x8
+    ensures { (l : ℕ) → l < 8 → nat_lt 0 (slice_index result l) ≡ has mask l }
 {
-    let size = x.unsigned_abs();
-    size * size
+    let mut lanes = [0; 8];
+    for l in 0..8 {
+        lanes[l] = ((mask >> l as u32) % 2) as u64;
+    }
+    u64x8::from_array(lanes)
+}
+
+// The first where lanes are flagged, or all of it where the block is not mixed.
+#[inline(always)]
+pub(crate) fn kept<const MIXED: bool>(flags: u64x8, first: [i64; 8], rest: [i64; 8]) -> [i64; 8]
+    requires first { (l : ℕ) → l < 8 → FitsSigned w64 (entry first l) }
+    requires rest { (l : ℕ) → l < 8 → FitsSigned w64 (entry rest l) }
+    ensures { (l : ℕ) → l < 8 → entry result l ≡ (if is_on MIXED (slice_index flags l) then entry first l else entry rest l) }
+{
+    if MIXED {
+        picked(flags, first, rest)
+    } else {
+        first
+    }
+}
+
+// Parts of momenta, raised by 2^23.
+#[inline(always)]
+fn raised(x: [i64; 8]) -> u64x8
+    requires { (l : ℕ) → l < 8 → unsigned_abs (entry x l) ≤ 1769472 }
+    ensures { (l : ℕ) → l < 8 → pos (slice_index result l) -ℤ pos 8388608 ≡ entry x l }
+{
+    natural(plus(x, [8388608; 8]))
 }
 
 // 11 rho^2 less three times the square of the momentum.
-#[inline]
-fn base(rho: i64, x: i64, y: i64, z: i64) -> u64
-    requires not_dense { unsigned_abs rho ≤ 1769472 }
-    requires x_small { unsigned_abs x ≤ unsigned_abs rho }
-    requires y_small { unsigned_abs y ≤ unsigned_abs rho }
-    requires z_small { unsigned_abs z ≤ unsigned_abs rho }
-    ensures { result + 3 * (unsigned_abs x * unsigned_abs x + unsigned_abs y * unsigned_abs y + unsigned_abs z * unsigned_abs z) ≡ 11 * (unsigned_abs rho * unsigned_abs rho) }
+#[inline(always)]
+fn base(rho: u64x8, x: u64x8, y: u64x8, z: u64x8) -> u64x8
+    requires not_dense { (l : ℕ) → l < 8 → slice_index rho l ≤ 1769472 }
+    requires x_small { (l : ℕ) → l < 8 → unsigned_abs (pos (slice_index x l) -ℤ pos 8388608) ≤ slice_index rho l }
+    requires y_small { (l : ℕ) → l < 8 → unsigned_abs (pos (slice_index y l) -ℤ pos 8388608) ≤ slice_index rho l }
+    requires z_small { (l : ℕ) → l < 8 → unsigned_abs (pos (slice_index z l) -ℤ pos 8388608) ≤ slice_index rho l }
+    ensures { (l : ℕ) → l < 8 → slice_index result l + 3 * own_square (slice_index x l) (slice_index y l) (slice_index z l) ≡ 11 * (slice_index rho l * slice_index rho l) }
 {
-    11 * square(rho) - 3 * (square(x) + square(y) + square(z))
+    let own = sum(sum(square(x), square(y)), square(z));
+    difference(multiple(11, product(rho, rho)), multiple(3, own))
 }
 
-// A part of a momentum, raised by 2^23.
-#[inline]
-fn raised(x: i64) -> u64
-    requires { unsigned_abs x ≤ 1769472 }
-    ensures { x ≡ pos result -ℤ pos 8388608 }
-{
-    (x + 8388608) as u64
+impl Fluid {
+    /// What lanes have of these sums, which are of cells in limits where lanes collide.
+    #[inline(always)]
+    pub(crate) fn of<const MIXED: bool>(sums: &Sums, flags: Flags) -> Fluid
+        requires sums { (l : ℕ) → l < 8 → IsWithin (is_on MIXED (slice_index flags.colliding l)) (entry sums.now.rho l) (entry sums.now.x l) (entry sums.now.y l) (entry sums.now.z l) }
+        ensures colliding { result.flags.colliding ≡ flags.colliding }
+        ensures turning { result.flags.turning ≡ flags.turning }
+        ensures sound { (l : ℕ) → l < 8 → IsSound (slice_index result.cells.rho l) (slice_index result.cells.reciprocal l) (slice_index result.cells.base l) (slice_index result.x l) (slice_index result.y l) (slice_index result.z l) }
+        ensures rho { (l : ℕ) → l < 8 → is_on MIXED (slice_index flags.colliding l) ≡ true → entry sums.now.rho l ≡ pos (slice_index result.cells.rho l) }
+        ensures x_is { (l : ℕ) → l < 8 → is_on MIXED (slice_index flags.colliding l) ≡ true → entry sums.now.x l ≡ pos (slice_index result.x l) -ℤ pos 8388608 }
+        ensures y_is { (l : ℕ) → l < 8 → is_on MIXED (slice_index flags.colliding l) ≡ true → entry sums.now.y l ≡ pos (slice_index result.y l) -ℤ pos 8388608 }
+        ensures z_is { (l : ℕ) → l < 8 → is_on MIXED (slice_index flags.colliding l) ≡ true → entry sums.now.z l ≡ pos (slice_index result.z l) -ℤ pos 8388608 }
+    {
+        let density = kept::<MIXED>(flags.colliding, sums.rho, [884736; 8]);
+        let first = kept::<MIXED>(flags.colliding, sums.x, [0; 8]);
+        let second = kept::<MIXED>(flags.colliding, sums.y, [0; 8]);
+        let third = kept::<MIXED>(flags.colliding, sums.z, [0; 8]);
+        let rho = natural(density);
+        let x = raised(first);
+        let y = raised(second);
+        let z = raised(third);
+        let cells = Cells {
+            rho,
+            reciprocal: reciprocals(rho),
+            base: base(rho, x, y, z),
+        };
+        Fluid {
+            flags,
+            cells,
+            x,
+            y,
+            z,
+        }
+    }
+
+    /// The momentum along a velocity, raised by 2^23.
+    #[inline(always)]
+    pub(crate) fn along(&self, c: &[i64; 3]) -> u64x8
+        requires units { (a : ℕ) → a < 3 → unsigned_abs (part c.now a) ≤ 1 }
+        requires sound { (l : ℕ) → l < 8 → IsSound (slice_index self.now.cells.rho l) (slice_index self.now.cells.reciprocal l) (slice_index self.now.cells.base l) (slice_index self.now.x l) (slice_index self.now.y l) (slice_index self.now.z l) }
+        ensures { (l : ℕ) → l < 8 → dot c.now (lowered (slice_index self.now.x l) (slice_index self.now.y l) (slice_index self.now.z l)) ≡ pos (slice_index result l) -ℤ pos 8388608 }
+    {
+        let x = stepped(all(8388608), c[0], self.x);
+        let y = stepped(x, c[1], self.y);
+        stepped(y, c[2], self.z)
+    }
 }
 
 // A momentum along a velocity, with the share c j of one more axis. All are raised by 2^23.
-#[inline]
+#[inline(always)]
 fn stepped(along: u64x8, c: i64, j: u64x8) -> u64x8
     requires unit { unsigned_abs c ≤ 1 }
     requires not_low { (l : ℕ) → l < 8 → 4849664 ≤ slice_index along l }
@@ -76,127 +144,4 @@ fn stepped(along: u64x8, c: i64, j: u64x8) -> u64x8
         return difference(sum(along, all(8388608)), j);
     }
     along
-}
-
-impl Fluid {
-    // No lane collides.
-    fn resting() -> Fluid
-        ensures sound { (l : ℕ) → l < 8 → IsSound (slice_index result.rho l) (slice_index result.reciprocal l) (slice_index result.base l) (slice_index result.x l) (slice_index result.y l) (slice_index result.z l) }
-        ensures none { (l : ℕ) → l < 8 → slice_index_or result.chosen l false ≡ false }
-    {
-        Fluid {
-            chosen: [false; 8],
-            rho: [884736; 8],
-            reciprocal: [562949953421312 / 884736; 8],
-            base: [11 * (884736 * 884736); 8],
-            x: [8388608; 8],
-            y: [8388608; 8],
-            z: [8388608; 8],
-        }
-    }
-
-    // Lane `j` collides, with this density and this momentum.
-    fn put(&mut self, j: u32, m: Moment)
-        requires known { j < 8 }
-        requires not_thin { pos 442368 ≤ℤ m.rho }
-        requires not_dense { m.rho ≤ℤ pos 1769472 }
-        requires x_small { unsigned_abs m.jx ≤ unsigned_abs m.rho }
-        requires y_small { unsigned_abs m.jy ≤ unsigned_abs m.rho }
-        requires z_small { unsigned_abs m.jz ≤ unsigned_abs m.rho }
-        ensures chosen { slice_index_or self.new.chosen j false ≡ true }
-        ensures reciprocal { slice_index self.new.reciprocal j ≡ 562949953421312 / unsigned_abs m.rho }
-        ensures base { slice_index self.new.base j + 3 * (unsigned_abs m.jx * unsigned_abs m.jx + unsigned_abs m.jy * unsigned_abs m.jy + unsigned_abs m.jz * unsigned_abs m.jz) ≡ 11 * (unsigned_abs m.rho * unsigned_abs m.rho) }
-        ensures density { m.rho ≡ pos (slice_index self.new.rho j) }
-        ensures x_is { m.jx ≡ pos (slice_index self.new.x j) -ℤ pos 8388608 }
-        ensures y_is { m.jy ≡ pos (slice_index self.new.y j) -ℤ pos 8388608 }
-        ensures z_is { m.jz ≡ pos (slice_index self.new.z j) -ℤ pos 8388608 }
-        ensures other_flags { (k : ℕ) → k ≢ j → slice_index_or self.new.chosen k false ≡ slice_index_or self.old.chosen k false }
-        ensures other_rho { (k : ℕ) → k ≢ j → slice_index self.new.rho k ≡ slice_index self.old.rho k }
-        ensures other_reciprocal { (k : ℕ) → k ≢ j → slice_index self.new.reciprocal k ≡ slice_index self.old.reciprocal k }
-        ensures other_base { (k : ℕ) → k ≢ j → slice_index self.new.base k ≡ slice_index self.old.base k }
-        ensures other_x { (k : ℕ) → k ≢ j → slice_index self.new.x k ≡ slice_index self.old.x k }
-        ensures other_y { (k : ℕ) → k ≢ j → slice_index self.new.y k ≡ slice_index self.old.y k }
-        ensures other_z { (k : ℕ) → k ≢ j → slice_index self.new.z k ≡ slice_index self.old.z k }
-    {
-        let lane = j as usize;
-        self.chosen[lane] = true;
-        self.rho[lane] = m.rho as u64;
-        self.reciprocal[lane] = 562949953421312 / (m.rho as u64);
-        self.base[lane] = base(m.rho, m.jx, m.jy, m.jz);
-        self.x[lane] = raised(m.jx);
-        self.y[lane] = raised(m.jy);
-        self.z[lane] = raised(m.jz);
-    }
-
-    // Lane `j` collides where it is a fluid lane in limits. The answer is whether it is a fluid lane out of limits.
-    fn take<V: VelocitySet>(&mut self, rows: &[[i64; 8]; 27], j: u32, fluid: bool) -> bool
-        requires known { j < 8 }
-        requires sized { IsBlock rows.now }
-        requires fits { (i : ℕ) → i < V.stencil.directions → FitsSigned w32 (lane rows.now j i) }
-        requires sound { IsSound (slice_index self.old.rho j) (slice_index self.old.reciprocal j) (slice_index self.old.base j) (slice_index self.old.x j) (slice_index self.old.y j) (slice_index self.old.z j) }
-        requires rests { slice_index_or self.old.chosen j false ≡ false }
-        ensures ready { IsReady V.stencil self.new.chosen self.new.rho self.new.reciprocal self.new.base self.new.x self.new.y self.new.z j (lane rows.now j) }
-        ensures chosen { slice_index_or self.new.chosen j false ≡ (fluid && in_limits V.stencil (lane rows.now j)) }
-        ensures answer { result ≡ (fluid && not (in_limits V.stencil (lane rows.now j))) }
-        ensures other_flags { (k : ℕ) → k ≢ j → slice_index_or self.new.chosen k false ≡ slice_index_or self.old.chosen k false }
-        ensures other_rho { (k : ℕ) → k ≢ j → slice_index self.new.rho k ≡ slice_index self.old.rho k }
-        ensures other_reciprocal { (k : ℕ) → k ≢ j → slice_index self.new.reciprocal k ≡ slice_index self.old.reciprocal k }
-        ensures other_base { (k : ℕ) → k ≢ j → slice_index self.new.base k ≡ slice_index self.old.base k }
-        ensures other_x { (k : ℕ) → k ≢ j → slice_index self.new.x k ≡ slice_index self.old.x k }
-        ensures other_y { (k : ℕ) → k ≢ j → slice_index self.new.y k ≡ slice_index self.old.y k }
-        ensures other_z { (k : ℕ) → k ≢ j → slice_index self.new.z k ≡ slice_index self.old.z k }
-    {
-        if !fluid {
-            return false;
-        }
-        let f = lane::<V>(rows, j);
-        if !in_limits::<V>(&f) {
-            return true;
-        }
-        self.put(j, moment::<V>(&f));
-        false
-    }
-
-    /// The lanes of `fluid` that are in limits, and the least lane of `fluid` that is not.
-    pub(crate) fn of<V: VelocitySet>(rows: &[[i64; 8]; 27], fluid: u8) -> (Fluid, Option<u32>)
-        requires sized { IsBlock rows.now }
-        requires fits { (i j : ℕ) → i < V.stencil.directions → j < 8 → FitsSigned w32 (lane rows.now j i) }
-        ensures ready { (j : ℕ) → j < 8 → IsReady V.stencil result.0.chosen result.0.rho result.0.reciprocal result.0.base result.0.x result.0.y result.0.z j (lane rows.now j) }
-        ensures chosen { (j : ℕ) → j < 8 → slice_index_or result.0.chosen j false ≡ (has fluid j && in_limits V.stencil (lane rows.now j)) }
-        ensures answer { result.1 ≡ least_out V.stencil fluid rows.now }
-    {
-        let mut cells = Fluid::resting();
-        let mut least = None;
-        for j in 0..8 {
-            let out = cells.take::<V>(rows, j, has(fluid, j));
-            least = found_or(least, out, j);
-        }
-        (cells, least)
-    }
-
-    /// What the lanes have for all pairs.
-    #[inline]
-    pub(crate) fn cells(&self) -> Cells
-        ensures rho { result.rho ≡ self.now.rho }
-        ensures reciprocal { result.reciprocal ≡ self.now.reciprocal }
-        ensures base { result.base ≡ self.now.base }
-    {
-        Cells {
-            rho: u64x8::from_array(self.rho),
-            reciprocal: u64x8::from_array(self.reciprocal),
-            base: u64x8::from_array(self.base),
-        }
-    }
-
-    /// The momentum along a velocity, raised by 2^23.
-    #[inline]
-    pub(crate) fn along(&self, c: &[i64; 3]) -> u64x8
-        requires units { (a : ℕ) → a < 3 → unsigned_abs (part c.now a) ≤ 1 }
-        requires sound { (l : ℕ) → l < 8 → IsSound (slice_index self.now.rho l) (slice_index self.now.reciprocal l) (slice_index self.now.base l) (slice_index self.now.x l) (slice_index self.now.y l) (slice_index self.now.z l) }
-        ensures { (l : ℕ) → l < 8 → dot c.now (lowered (slice_index self.now.x l) (slice_index self.now.y l) (slice_index self.now.z l)) ≡ pos (slice_index result l) -ℤ pos 8388608 }
-    {
-        let x = stepped(all(8388608), c[0], u64x8::from_array(self.x));
-        let y = stepped(x, c[1], u64x8::from_array(self.y));
-        stepped(y, c[2], u64x8::from_array(self.z))
-    }
 }

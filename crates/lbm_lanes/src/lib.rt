@@ -1,29 +1,27 @@
 //! The rule of a cell, applied to eight cells at once.
 //!
-//! A block holds eight cells, a row of it one direction of each, and a lane of it one cell.
-//! Masks of eight bits say which lanes are fluid cells and which are solid cells.
-//! `collide_block` is proved to make of each lane what `lbm_cell` makes of its cell.
+//! Masks of eight bits say which lanes are fluid cells and which are solid cells. `collide_rows` takes the rows of the
+//! cells from whatever holds them and puts what the cells send; it is proved to make of each lane what `lbm_cell` makes
+//! of its cell. `collide_block` is the same over a `Block`.
 //!
-//! `fluid` finds which lanes collide, with their densities and momenta. `pairs` relaxes and pushes the moving
-//! populations of these lanes, a pair of opposite directions at a time, and `rest` gives what is left of a density to
-//! the rest population. `pair` takes no division by a density or by the rates: the quotients are guessed by
-//! reciprocals and set right, and are proved exact. The formula that it follows is proved to be the relaxation of
-//! `lbm_cell`.
+//! `moments` sums densities and momenta and finds the lanes out of limits. `fluid` makes of the lanes that collide
+//! natural numbers in step. `kernel` goes over the pairs of opposite directions by nines of written directions, so that
+//! the tables of the velocity set fold; `pairs` and `pair` relax and push a pair. `pair` takes no division by a density
+//! or by the rates: quotients are guessed by reciprocals and set right, and are proved exact. The formula that it
+//! follows is proved to be the relaxation of `lbm_cell`. Where all eight lanes collide, no lane is asked.
 #![tactic(auto)]
 
-pub mod block;
 pub mod collision;
 mod fluid;
-mod lane;
+pub mod kernel;
+mod moments;
 mod pair;
 mod pairs;
 mod quotient;
-mod rest;
-mod row;
+mod reciprocal;
+mod signed;
 mod vectors;
 
-pub use block::Block;
 pub use collision::collide_block;
-
-#[cfg(test)]
-mod tests;
+pub use kernel::collide_rows;
+pub use lbm_walk::Block;

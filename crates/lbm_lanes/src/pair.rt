@@ -1,6 +1,6 @@
 //! A pair of opposite directions of eight cells in step.
 
-ghost use Rattle.std.specs.Prelude.{◌≡◌, ◌<◌, ◌≤◌, ◌^◌, ◌+◌, ◌-◌, ◌*◌, ◌/◌, ℕ, pos, ◌-ℤ◌, slice_index};
+ghost use Rattle.std.specs.Prelude.{◌≡◌, ◌<◌, ◌≤◌, ◌^◌, ◌+◌, ◌-◌, ◌*◌, ◌/◌, ℕ, pos, ◌+ℤ◌, ◌-ℤ◌, slice_index};
 ghost use Rattle.lbm_lanes.specs.Pairs.{above, below, change, IsDivisor, IsLane, IsShared};
 
 use crate::quotient::{Divisor, by_density, small_by_density};
@@ -8,8 +8,8 @@ use crate::vectors::{all, difference, multiple, product, sum};
 use std::simd::prelude::*;
 
 // The square of a number that is given raised by 2^23.
-#[inline]
-fn square(raised: u64x8) -> u64x8
+#[inline(always)]
+pub(crate) fn square(raised: u64x8) -> u64x8
     requires { (l : ℕ) → l < 8 → slice_index raised l ≤ 16777216 }
     ensures { (l : ℕ) → l < 8 → slice_index result l + 16777216 * slice_index raised l ≡ slice_index raised l * slice_index raised l + 70368744177664 }
 {
@@ -18,7 +18,7 @@ fn square(raised: u64x8) -> u64x8
 }
 
 // even y / rho, rounded down: the whole part of y / rho and its remainder are multiplied apart.
-#[inline]
+#[inline(always)]
 fn shared(even: u64, y: u64x8, rho: u64x8, reciprocal: u64x8) -> u64x8
     requires few { even ≤ 221184 }
     requires not_thin { (l : ℕ) → l < 8 → 442368 ≤ slice_index rho l }
@@ -46,7 +46,7 @@ pub(crate) struct Factors {
 }
 
 // What is divided by 2 d q, raised by 2^23 of it, for the direction of population `f` with the opposite `o`.
-#[inline]
+#[inline(always)]
 fn dividend(
     factors: &Factors,
     shared: u64x8,
@@ -89,7 +89,7 @@ pub(crate) struct Pair {
 }
 
 impl Pair {
-    #[inline]
+    #[inline(always)]
     fn factors(&self) -> Factors
         requires light { self.now.weight ≤ 216 }
         requires small { self.now.denominator ≤ 216 }
@@ -127,7 +127,7 @@ pub(crate) struct Cells {
 }
 
 // even (base + 9 u^2) / rho, for a momentum u along the velocity that is raised by 2^23.
-#[inline]
+#[inline(always)]
 fn shared_part(even: u64, cells: &Cells, raised: u64x8) -> u64x8
     requires few { even ≤ 221184 }
     requires not_thin { (l : ℕ) → l < 8 → 442368 ≤ slice_index cells.now.rho l }
@@ -144,7 +144,7 @@ fn shared_part(even: u64, cells: &Cells, raised: u64x8) -> u64x8
 }
 
 // What relaxation adds to the populations `f`, raised by 2^23, where `o` are those of the opposite direction.
-#[inline]
+#[inline(always)]
 fn relaxed(
     pair: &Pair,
     divisor: &Divisor,
@@ -173,7 +173,7 @@ fn relaxed(
 
 /// What relaxation adds to the populations `f` of a direction, and to those `o` of its opposite, both raised by 2^23.
 /// The momentum along the velocity of the direction is given raised by as much.
-#[inline]
+#[inline(always)]
 pub(crate) fn changes(
     pair: &Pair,
     divisor: &Divisor,
@@ -200,5 +200,35 @@ pub(crate) fn changes(
     let turned = difference(all(16777216), raised);
     let ahead = relaxed(pair, divisor, shared, cells, raised, f, o);
     let behind = relaxed(pair, divisor, shared, cells, turned, o, f);
+    (ahead, behind)
+}
+
+/// The populations `f` of a direction, and `o` of its opposite, after they have relaxed, both raised by 2^23.
+#[inline(always)]
+pub(crate) fn relaxed_pair(
+    pair: &Pair,
+    divisor: &Divisor,
+    cells: &Cells,
+    raised: u64x8,
+    f: u64x8,
+    o: u64x8,
+) -> (u64x8, u64x8)
+    requires light { pair.now.weight ≤ 216 }
+    requires small { pair.now.denominator ≤ 216 }
+    requires p_at_most { pair.now.p ≤ 1024 }
+    requires m_at_most { pair.now.m ≤ 1024 }
+    requires q_at_most { pair.now.q ≤ 1024 }
+    requires prepared { IsDivisor divisor.now.d divisor.now.shift divisor.now.reciprocal }
+    requires divisor { divisor.now.d ≡ 2 * (pair.now.denominator * pair.now.q) }
+    requires reciprocal { (l : ℕ) → l < 8 → slice_index cells.now.reciprocal l ≡ 562949953421312 / slice_index cells.now.rho l }
+    requires lanes { (l : ℕ) → l < 8 → (n : ℕ) × (own : ℕ) × IsLane pair.now.weight pair.now.denominator pair.now.p pair.now.m pair.now.q n (slice_index cells.now.rho l) own (slice_index cells.now.base l) (slice_index raised l) (slice_index f l) (slice_index o l) }
+    ensures ahead_size { (l : ℕ) → l < 8 → slice_index result.0 l < 33554432 }
+    ensures behind_size { (l : ℕ) → l < 8 → slice_index result.1 l < 33554432 }
+    ensures ahead { (l own : ℕ) → l < 8 → slice_index cells.now.base l + 3 * own ≡ 11 * (slice_index cells.now.rho l * slice_index cells.now.rho l) → pos (slice_index result.0 l) -ℤ pos 8388608 ≡ pos (slice_index f l) +ℤ change pair.now.weight pair.now.denominator pair.now.p pair.now.m pair.now.q (slice_index cells.now.rho l) own (slice_index raised l) (slice_index f l) (slice_index o l) }
+    ensures behind { (l own : ℕ) → l < 8 → slice_index cells.now.base l + 3 * own ≡ 11 * (slice_index cells.now.rho l * slice_index cells.now.rho l) → pos (slice_index result.1 l) -ℤ pos 8388608 ≡ pos (slice_index o l) +ℤ change pair.now.weight pair.now.denominator pair.now.p pair.now.m pair.now.q (slice_index cells.now.rho l) own (16777216 - slice_index raised l) (slice_index o l) (slice_index f l) }
+{
+    let (more, less) = changes(pair, divisor, cells, raised, f, o);
+    let ahead = sum(f, more);
+    let behind = sum(o, less);
     (ahead, behind)
 }

@@ -7,8 +7,8 @@ use crate::vectors::{all, chosen, cut, difference, product, sum};
 use std::simd::prelude::*;
 
 // n / d, where the guess is the quotient or one below it.
-#[inline]
-fn corrected(n: u64x8, d: u64x8, guess: u64x8) -> u64x8
+#[inline(always)]
+pub(crate) fn corrected(n: u64x8, d: u64x8, guess: u64x8) -> u64x8
     requires low { (l : ℕ) → l < 8 → slice_index guess l * slice_index d l ≤ slice_index n l }
     requires high { (l : ℕ) → l < 8 → slice_index n l < (slice_index guess l + 2) * slice_index d l }
     requires small { (l : ℕ) → l < 8 → slice_index guess l < 2 ^ 32 }
@@ -21,7 +21,7 @@ fn corrected(n: u64x8, d: u64x8, guess: u64x8) -> u64x8
 }
 
 // n / rho
-#[inline]
+#[inline(always)]
 pub(crate) fn by_density(n: u64x8, rho: u64x8, reciprocal: u64x8) -> u64x8
     requires not_thin { (l : ℕ) → l < 8 → 442368 ≤ slice_index rho l }
     requires not_dense { (l : ℕ) → l < 8 → slice_index rho l ≤ 1769472 }
@@ -33,7 +33,7 @@ pub(crate) fn by_density(n: u64x8, rho: u64x8, reciprocal: u64x8) -> u64x8
 }
 
 // n / rho, for a small quotient
-#[inline]
+#[inline(always)]
 pub(crate) fn small_by_density(n: u64x8, rho: u64x8, reciprocal: u64x8) -> u64x8
     requires not_thin { (l : ℕ) → l < 8 → 442368 ≤ slice_index rho l }
     requires not_dense { (l : ℕ) → l < 8 → slice_index rho l ≤ 1769472 }
@@ -53,7 +53,7 @@ pub(crate) struct Divisor {
 }
 
 // How many digits of a dividend are cut off.
-#[inline]
+#[inline(always)]
 fn shift(d: u64) -> u32
     requires some { 2 ≤ d }
     requires small { d ≤ 442368 }
@@ -89,7 +89,7 @@ impl Divisor {
     }
 
     // n / d
-    #[inline]
+    #[inline(always)]
     pub(crate) fn quotient(&self, n: u64x8) -> u64x8
         requires prepared { IsDivisor self.now.d self.now.shift self.now.reciprocal }
         requires divides { self.now.d ≤ 442368 }

@@ -4,7 +4,7 @@ ghost use Rattle.std.specs.Prelude.{◌≡◌, ◌<◌, ◌≤◌, ◌^◌, ◌*
 
 use std::simd::prelude::*;
 
-#[inline]
+#[inline(always)]
 pub(crate) fn sum(a: u64x8, b: u64x8) -> u64x8
     requires { (l : ℕ) → l < 8 → slice_index a l + slice_index b l < 2 ^ 62 }
     ensures { (l : ℕ) → l < 8 → slice_index result l ≡ slice_index a l + slice_index b l }
@@ -12,7 +12,7 @@ pub(crate) fn sum(a: u64x8, b: u64x8) -> u64x8
     a.strict_add(b)
 }
 
-#[inline]
+#[inline(always)]
 pub(crate) fn difference(a: u64x8, b: u64x8) -> u64x8
     requires { (l : ℕ) → l < 8 → slice_index b l ≤ slice_index a l }
     ensures { (l : ℕ) → l < 8 → slice_index result l ≡ slice_index a l - slice_index b l }
@@ -21,7 +21,7 @@ pub(crate) fn difference(a: u64x8, b: u64x8) -> u64x8
 }
 
 // The same numbers, which fit 32 bits, so that a product of two takes one instruction.
-#[inline]
+#[inline(always)]
 fn narrow(a: u64x8) -> u64x8
     requires { (l : ℕ) → l < 8 → slice_index a l < 2 ^ 32 }
     ensures value { (l : ℕ) → l < 8 → slice_index result l ≡ slice_index a l }
@@ -30,7 +30,7 @@ fn narrow(a: u64x8) -> u64x8
     a.cast::<u32>().cast::<u64>()
 }
 
-#[inline]
+#[inline(always)]
 pub(crate) fn product(a: u64x8, b: u64x8) -> u64x8
     requires first { (l : ℕ) → l < 8 → slice_index a l < 2 ^ 32 }
     requires second { (l : ℕ) → l < 8 → slice_index b l < 2 ^ 32 }
@@ -41,7 +41,7 @@ pub(crate) fn product(a: u64x8, b: u64x8) -> u64x8
 }
 
 // k a
-#[inline]
+#[inline(always)]
 pub(crate) fn multiple(k: u64, a: u64x8) -> u64x8
     requires { (l : ℕ) → l < 8 → k * slice_index a l < 2 ^ 62 }
     ensures { (l : ℕ) → l < 8 → slice_index result l ≡ k * slice_index a l }
@@ -49,7 +49,7 @@ pub(crate) fn multiple(k: u64, a: u64x8) -> u64x8
     u64x8::splat(k).strict_mul(a)
 }
 
-#[inline]
+#[inline(always)]
 pub(crate) fn cut(a: u64x8, shift: u32) -> u64x8
     requires { shift < 64 }
     ensures { (l : ℕ) → l < 8 → slice_index result l ≡ slice_index a l / 2 ^ shift }
@@ -58,14 +58,14 @@ pub(crate) fn cut(a: u64x8, shift: u32) -> u64x8
 }
 
 // The first where the numbers of `low` are below those of `high`, and the second elsewhere.
-#[inline]
+#[inline(always)]
 pub(crate) fn chosen(low: u64x8, high: u64x8, first: u64x8, second: u64x8) -> u64x8
     ensures { (l : ℕ) → l < 8 → slice_index result l ≡ (if nat_lt (slice_index low l) (slice_index high l) then slice_index first l else slice_index second l) }
 {
     low.simd_lt(high).select(first, second)
 }
 
-#[inline]
+#[inline(always)]
 pub(crate) fn all(x: u64) -> u64x8
     ensures { (l : ℕ) → l < 8 → slice_index result l ≡ x }
 {

@@ -3,9 +3,9 @@ pub mod Moving
 pub mod Gains
 pub mod Sizes
 pub mod Neighbours
-pub mod Least
 pub mod Mass
 pub mod SmallStates
+pub mod Drift
 pub mod Local
 pub mod FirstLemmas
 pub mod States

@@ -54,7 +54,7 @@ post-sum case s x laws =
     ]
 
 -- every population leaves a cell for one cell
-arrivals : (case : FlowCase) (f : ℕ → ℤ) (i : ℕ) → IsVelocitySet case.stencil → HasCells case.torus → i < case.stencil.directions →
+pub arrivals : (case : FlowCase) (f : ℕ → ℤ) (i : ℕ) → IsVelocitySet case.stencil → HasCells case.torus → i < case.stencil.directions →
     sum_below (cells case.torus) (λ x. f (source case x i)) ≡ sum_below (cells case.torus) f
 unfolding IsUnit IsReverse
 arrivals case f i laws some known =

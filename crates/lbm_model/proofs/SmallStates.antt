@@ -17,7 +17,7 @@ use Rattle.lbm_model.specs.Case.{FlowCase, IsCase, first_density, is_solid, is_m
 use Rattle.lbm_model.specs.Flow.{IsStateOf, post, fluid_first, wall_first, first_in, first, next, is_sound, out_of_limits, run, reached, range, RunEnd}
 use Rattle.lbm_model.specs.Small.{IsNarrow, size_limit, IsSmall, FirstIsNarrow, NarrowIsSmall, NextIsSmall, ReachedIsNarrow}
 use Rattle.lbm_model.proofs.Gains.{push_small}
-use Rattle.lbm_model.proofs.Least.{least_failing-none}
+use Rattle.lbm_cell.proofs.Least.{least_failing-none}
 use Rattle.lbm_model.proofs.Neighbours.{target-source, source_known}
 use Rattle.lbm_model.proofs.Mass.{population-state_of, length-state_of, IsStateOf-next, goes_on}
 
@@ -142,7 +142,7 @@ small-narrow case s allowed state light = record {
 }
 
 -- a run that reaches a state begins in limits
-on_the_way : (worst : Option ℕ) (time : ℕ) (rest : RunEnd) (end : FlowState) → elim worst [ Some x ↦ range time x | None ↦ rest ] ≡ reached end → worst ≡ None
+pub on_the_way : (worst : Option ℕ) (time : ℕ) (rest : RunEnd) (end : FlowState) → elim worst [ Some x ↦ range time x | None ↦ rest ] ≡ reached end → worst ≡ None
 on_the_way (Some x) time rest end e = absurd cc
 on_the_way None time rest end e = refl
 

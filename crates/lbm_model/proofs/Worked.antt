@@ -1,6 +1,7 @@
 -- The worked cases, by computation.
 use Rattle.std.proofs.Common.{refl}
-use Rattle.lbm_model.specs.Worked.{pushed_cell, PushedCell, LeavingCell, two_levels, TwoLevels, NoStep, dense_cells, DenseCells, boxed_cell, BoxedCell, two_rates, TwoRates, pressing_wall, PressingWall, sliding_wall, SlidingWall}
+use Rattle.lbm_space.specs.Padded.{padded_index, offset, reach}
+use Rattle.lbm_model.specs.Worked.{pushed_cell, PushedCell, LeavingCell, two_levels, TwoLevels, NoStep, dense_cells, DenseCells, boxed_cell, BoxedCell, two_rates, TwoRates, pressing_wall, PressingWall, sliding_wall, SlidingWall, three_by_two, KeptPopulations}
 
 pub pushed : PushedCell
 unfolding pushed_cell
@@ -37,3 +38,19 @@ pressed = record { gain = refl; first_mass = refl; mass_after_one = refl; densit
 pub slid : SlidingWall
 unfolding sliding_wall
 slid = record { gain = refl; mass_after_one = refl; momentum_after_one = refl }
+
+pub kept : KeptPopulations
+unfolding three_by_two padded_index offset reach
+kept = record {
+  two_array = refl;
+  two_slot = refl;
+  swap_array = refl;
+  swap_slot = refl;
+  aa_array_at_even_times = refl;
+  aa_slot_at_even_times = refl;
+  aa_array_at_odd_times = refl;
+  aa_slot_at_odd_times = refl;
+  grid_array = refl;
+  grid_slot_at_even_times = refl;
+  grid_slot_at_odd_times = refl;
+}

@@ -1,5 +1,6 @@
 use Rattle.std.specs.Prelude.{◌≡◌, ℕ, zero, suc, ◌+◌, ◌*◌, Bool, ◌||◌, length, ℤ, pos, ◌+ℤ◌, if◌then◌else◌, Option, Some, None}
 use Rattle.lbm_space.specs.Torus.{cells}
+use Rattle.lbm_cell.specs.Least.{least_failing}
 use Rattle.lbm_cell.specs.Moments.{in_limits}
 use Rattle.lbm_cell.specs.Collision.{collision, reflection, first_population}
 use Rattle.lbm_model.specs.State.{FlowState, population, state_of}
@@ -38,14 +39,6 @@ first case = state_by case (first_in case)
 -- whether cell x, with the populations f, is solid or in limits
 abbrev pub is_sound : FlowCase → ℕ → (ℕ → ℤ) → Bool
 is_sound case x f = is_solid case x || in_limits case.stencil f
-
--- the least number below n that fails the test
-abbrev pub least_failing : ℕ → (ℕ → Bool) → Option ℕ
-least_failing zero test = None
-least_failing (suc n) test = elim (least_failing n test) [
-  | Some k ↦ Some k
-  | None ↦ (if test n then None else Some n)
-]
 
 -- the least cell out of limits
 abbrev pub out_of_limits : FlowCase → FlowState → Option ℕ

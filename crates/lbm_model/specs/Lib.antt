@@ -4,6 +4,8 @@ pub mod Flow
 pub mod Layout
 pub mod Laws
 pub mod Small
+pub mod Drift
 pub mod Standing
 pub mod Sets
 pub mod Worked
+pub mod Refusals

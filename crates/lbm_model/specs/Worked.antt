@@ -8,6 +8,7 @@ use Rattle.lbm_cell.specs.Collision.{RelaxationRates, rates}
 use Rattle.lbm_model.specs.State.{FlowState, population, mass}
 use Rattle.lbm_model.specs.Case.{FlowCase, all_gain}
 use Rattle.lbm_model.specs.Flow.{first, next, run, reached, range}
+use Rattle.lbm_model.specs.Layout.{array_of, place_of, two_layout, swap_layout, aa_layout, grid_layout}
 
 -- the state after n steps
 abbrev pub after : ℕ → FlowCase → FlowState
@@ -135,3 +136,22 @@ pub record SlidingWall : Type 0 where
   pub gain : all_gain sliding_wall ≡ pos 0
   pub mass_after_one : mass (after 1 sliding_wall) ≡ pos 1179648
   pub momentum_after_one : momentum_at sliding_wall (after 1 sliding_wall) 1 ≡ vector (pos 12) (pos 0) (pos 0)
+
+-- Where each pattern keeps what comes to cell (0, 0) of a plane along (1, 1), which is direction 5: from cell (2, 1), behind it
+-- on the torus. With its pads the plane has four lines of 5 places: (0, 0) is place 6 and (2, 1) place 13. A diagonal neighbour
+-- is 6 places away.
+unfoldable pub three_by_two : FlowCase
+three_by_two = plane 3 2 (884736 ∷ 884736 ∷ 884736 ∷ 884736 ∷ 884736 ∷ 884736 ∷ []) one_rate
+
+pub record KeptPopulations : Type 0 where
+  pub two_array : array_of d2q9 two_layout 5 ≡ 5
+  pub two_slot : place_of three_by_two two_layout 0 5 ≡ 13
+  pub swap_array : array_of d2q9 swap_layout 5 ≡ 5
+  pub swap_slot : place_of three_by_two swap_layout 0 5 ≡ 7
+  pub aa_array_at_even_times : array_of d2q9 (aa_layout 6) 5 ≡ 5
+  pub aa_slot_at_even_times : place_of three_by_two (aa_layout 6) 0 5 ≡ 7
+  pub aa_array_at_odd_times : array_of d2q9 (aa_layout 7) 5 ≡ 7
+  pub aa_slot_at_odd_times : place_of three_by_two (aa_layout 7) 0 5 ≡ 14
+  pub grid_array : array_of d2q9 (grid_layout (torus 2 3 2 1) d2q9 6) 5 ≡ 5
+  pub grid_slot_at_even_times : place_of three_by_two (grid_layout (torus 2 3 2 1) d2q9 6) 0 5 ≡ 19
+  pub grid_slot_at_odd_times : place_of three_by_two (grid_layout (torus 2 3 2 1) d2q9 7) 0 5 ≡ 13

@@ -21,6 +21,3 @@ pub use pattern::{Pattern, StepEnd};
 pub use sets::SetKind;
 pub use state::State;
 pub use walls::{all_gain, gain};
-
-#[cfg(test)]
-mod tests;

@@ -7,3 +7,4 @@ pub mod RowStarts
 pub mod Shifts
 pub mod Slabs
 pub mod Interior
+mod Worked

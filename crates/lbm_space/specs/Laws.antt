@@ -1,3 +1,5 @@
+-- Proofs, and no definition: that the two tables meet the laws of a velocity set, by tests that compute. What is claimed is
+-- `IsVelocitySet` of Stencil alone. They stand here because the code names them (`ghost laws`), and it can name no lemma of proofs/.
 use Rattle.std.specs.Prelude.{◌≡◌, ℕ, zero, suc, ◌+◌, ◌*◌, ◌<◌, Bool, true, not, ◌||◌, ◌==◌, nat_lt, nat_le, length, ℤ, pos, ◌*ℤ◌, ◌≤ℤ◌, ◌<ℤ◌, neg_ℤ, unsigned_abs, int_lt, int_le, T, if◌then◌else◌}
 use Rattle.std.specs.Ordering.{int_eq}
 use Rattle.std.specs.Cmp.Rules.{signed_items}

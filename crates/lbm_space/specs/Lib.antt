@@ -5,3 +5,4 @@ pub mod Laws
 pub mod Torus
 pub mod Padded
 pub mod Cuttings
+pub mod Worked

@@ -129,6 +129,3 @@ fn first_bad_cut(entries: &[u32], rows: u32) -> Option<u32>
     }
     None
 }
-
-#[cfg(test)]
-mod tests;

@@ -2,6 +2,7 @@
 #![tactic(auto)]
 
 pub mod cutting;
+pub mod laws;
 pub mod memory;
 pub mod padded;
 pub mod set;
@@ -11,6 +12,3 @@ pub use cutting::{CutEnd, Cutting};
 pub use memory::Memory;
 pub use set::{D2Q9, D3Q19, VelocitySet};
 pub use space::Space;
-
-#[cfg(test)]
-mod tests;

@@ -148,6 +148,3 @@ fn wrapped(place: u32, pads: u32, side: u32) -> u32
 {
     (place + side - pads) % side
 }
-
-#[cfg(test)]
-mod tests;

@@ -12,8 +12,6 @@ mod outside;
 mod pieces;
 mod stdout;
 mod sure_store;
-#[cfg(test)]
-mod tests;
 
 pub use folder::FolderStore;
 pub use map_store::MapStore;

@@ -2,7 +2,8 @@
 use Rattle.std.proofs.Common.{◌≡◌, ◌≢◌, ◌⊎◌, ℕ, ◌+◌, ◌<◌, ◌≤◌, inl, inr, List, length, slice_index, refl, sym, ap, ◌∙◌, arith}
 use Rattle.std.proofs.lemmas.Bool.{cases_lt, cases_eq}
 use Rattle.lbm_arrays.specs.Lent.{Lent}
-use Rattle.lbm_sweep.specs.Blocks.{entry, IsSized}
+use Rattle.lbm_cell.specs.Rows.{entry}
+use Rattle.lbm_sweep.specs.Blocks.{IsSized}
 use Rattle.lbm_sweep.specs.Slabs.{Ranges}
 use Rattle.lbm_swap.specs.Exchange.{IsPaired}
 

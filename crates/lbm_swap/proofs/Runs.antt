@@ -4,7 +4,7 @@ use Rattle.std.proofs.lemmas.Bool.{cases_lt}
 use Rattle.lbm_space.specs.Torus.{Torus, IsSpace, rows as row_count}
 use Rattle.lbm_space.specs.Padded.{row_start}
 use Rattle.lbm_space.proofs.RowStarts.{row_start_rises}
-use Rattle.lbm_sweep.specs.Blocks.{entry}
+use Rattle.lbm_cell.specs.Rows.{entry}
 use Rattle.lbm_sweep.specs.Spans.{InRows, local}
 use Rattle.lbm_sweep.specs.Slabs.{Ranges}
 use Rattle.lbm_sweep.proofs.Places.{place_in_row, row_cells, local_within, local_distinct}

@@ -1,7 +1,8 @@
 //! The exchange between the ranges of opposite directions.
 
 ghost use Rattle.std.specs.Prelude.{◌≡◌, ◌≢◌, ◌⊎◌, ◌+◌, ◌*◌, ◌<◌, ◌≤◌, ℕ, List, [], None, length, slice_index};
-ghost use Rattle.lbm_sweep.specs.Blocks.{entry, IsSized};
+ghost use Rattle.lbm_cell.specs.Rows.{entry};
+ghost use Rattle.lbm_sweep.specs.Blocks.{IsSized};
 ghost use Rattle.lbm_swap.specs.Exchange.{IsPaired, IsReady, IsExchangedIn};
 
 use lbm_arrays::{Loan, PieceWork};

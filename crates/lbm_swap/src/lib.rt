@@ -12,6 +12,3 @@ mod passes;
 mod swap;
 
 pub use swap::Swap;
-
-#[cfg(test)]
-mod tests;

@@ -98,10 +98,11 @@ impl<V: VelocitySet, A: Allocator> Swap<V, A> {
 impl<V: VelocitySet + Sync, A: Allocator> Swap<V, A> {
     /// Goes on to the next state where all cells are in limits, and else names the least cell that is not, or the one that
     /// spent the pattern before. The gate is entered once before each slab's work, which is its cells' collision and then
-    /// their exchange.
+    /// their exchange. No memory is wanted.
     pub fn step<R: Threads + Sync, G: Gate>(&mut self, rt: &R, gate: &G) -> Result<(), StepEnd>
         requires time { self.old.time < 1000000 }
-        ensures { StepGives false (standing_by (λ time. swap_layout) self.old) (standing_by (λ time. swap_layout) self.new) result }
+        ensures step { StepGives ⟦<Self as Pattern>⟧.WANTS_MEMORY (standing_by (λ time. swap_layout) self.old) (standing_by (λ time. swap_layout) self.new) result }
+        ensures no_memory { ⟦<Self as Pattern>⟧.WANTS_MEMORY ≡ false }
     {
         if let Some(cell) = self.spent {
             return Err(StepEnd::Range(cell));

@@ -4,7 +4,8 @@ use Rattle.std.proofs.lemmas.Bool.{cases_lt}
 use Rattle.lbm_space.specs.Torus.{Torus, IsSpace, rows as row_count}
 use Rattle.lbm_sweep.specs.First.{IsFirst}
 use Rattle.lbm_sweep.specs.Sweep.{IsSwept, IsCollided}
-use Rattle.lbm_sweep.specs.Blocks.{entry, slots, AreLanes}
+use Rattle.lbm_cell.specs.Rows.{entry}
+use Rattle.lbm_sweep.specs.Blocks.{slots, AreLanes}
 use Rattle.lbm_sweep.specs.Spans.{InRows, IsSpan, SameFrom, local}
 use Rattle.lbm_sweep.specs.Slabs.{Ranges, InColumns}
 use Rattle.lbm_sweep.specs.declared.source.Span.{Span}

@@ -1,5 +1,8 @@
+pub mod Behind
+pub mod Cases
 pub mod Columns
 pub mod Copied
+pub mod Descents
 pub mod Filled
 pub mod Firsts
 pub mod Joined

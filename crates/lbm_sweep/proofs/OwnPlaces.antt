@@ -1,16 +1,19 @@
 -- What cells take that take their populations from their own places, in each slab of a region.
-use Rattle.std.proofs.Common.{◌≡◌, ℕ, ℤ, ◌-◌, ◌*◌, ◌<◌, ◌≤◌, List, length, slice_index, sym, subst, arith}
+use Rattle.std.proofs.Common.{◌≡◌, ℕ, ℤ, ◌-◌, ◌*◌, ◌<◌, ◌≤◌, List, length, slice_index, refl, sym, ap, ◌∙◌, subst, arith}
 use Rattle.lbm_space.specs.Stencil.{Stencil, IsVelocitySet}
 use Rattle.lbm_space.specs.Torus.{Torus, IsSpace, cells, rows as row_count}
 use Rattle.lbm_space.specs.Padded.{row_start}
-use Rattle.lbm_space.specs.Cuttings.{first_row, end_row, rows_of, IsCutting}
+use Rattle.lbm_space.specs.Cuttings.{slabs_of, first_row, end_row, rows_of, IsCutting}
 use Rattle.lbm_arrays.specs.Arrays.{array_size, held}
 use Rattle.lbm_arrays.specs.LentRanges.{lent, slab_rows, AreInside}
 use Rattle.lbm_arrays.specs.declared.steps.Step.{Step}
 use Rattle.lbm_arrays.specs.Steps.{step_shifts, HasRoom, touched}
+use Rattle.lbm_arrays.proofs.Moves.{length-shifts, shifts_inside}
 use Rattle.lbm_arrays.proofs.LentReads.{touched_at}
-use Rattle.lbm_sweep.specs.Blocks.{entry, IsSized, IsTable}
+use Rattle.lbm_cell.specs.Rows.{entry}
+use Rattle.lbm_sweep.specs.Blocks.{IsSized, IsTable}
 use Rattle.lbm_sweep.specs.Spans.{local}
+use Rattle.lbm_sweep.specs.Slabs.{IsSlab}
 use Rattle.lbm_sweep.specs.Regions.{range_slot, InEachSlab}
 use Rattle.lbm_sweep.proofs.Places.{row_known}
 use Rattle.lbm_sweep.proofs.Regions.{slot_entry, slab_is}
@@ -42,3 +45,19 @@ module _ (t : Torus) (space : IsSpace t) (margin : ℕ) (shifts : List ℤ) (ins
   pub own_small : (P : ℕ → ℤ → Type 0) → ((cell i : ℕ) → cell < cells t → i < q → P cell (held slots (range_slot t margin shifts (slice_index reads i) cell)))
       → InEachSlab t margin shifts bounds slots (λ rows ranges cell. (i : ℕ) → i < q → P cell (entry ranges (slice_index reads i) (local own rows cell)))
   own_small P all k cell known here i less = subst (P cell) (sym (own_taken k cell known here i less)) (all cell i here.known less)
+
+-- in the ranges of a step
+module _ (t : Torus) (space : IsSpace t) (v : Stencil) (laws : IsVelocitySet v) (fits : v.dimension ≡ t.dimension) (step : Step) (base margin : ℕ) (room : HasRoom t v step margin base)
+    (slots : List ℤ) (whole : length slots ≡ v.directions * array_size t margin) (bounds : List ℕ) (cutting : IsCutting bounds) (all : rows_of bounds ≡ row_count t) where
+  inside : AreInside t margin (step_shifts t v step base)
+  inside = shifts_inside t space v laws fits step base margin room
+
+  pub step_slab : (k : ℕ) → k < slabs_of bounds → IsSlab t v.directions (slab_rows bounds k) (lent t margin (step_shifts t v step base) (slab_rows bounds k) slots)
+  step_slab = slab_is t space margin (step_shifts t v step base) inside v.directions (length-shifts t v step base) bounds cutting all slots whole
+
+  -- each cell takes what it touches
+  pub step_taken : (reads : List ℕ) → IsTable v.directions reads
+      → InEachSlab t margin (step_shifts t v step base) bounds slots (λ rows ranges cell. (i : ℕ) → i < v.directions → entry ranges (slice_index reads i) (local t rows cell) ≡ held slots (touched t margin base v step (slice_index reads i) cell))
+  step_taken reads table k cell known here i less =
+      own_taken t space margin (step_shifts t v step base) inside v.directions (length-shifts t v step base) bounds cutting all slots whole reads table t refl k cell known here i less
+      ∙ ap (held slots) (slot_touched t space v laws fits step base margin room (slice_index reads i) cell (table.known i less) here.known)

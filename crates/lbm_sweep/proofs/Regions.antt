@@ -12,7 +12,8 @@ use Rattle.lbm_arrays.specs.LentRanges.{range_start, IsLent, lent, slab_rows, Ar
 use Rattle.lbm_arrays.proofs.LentOut.{start_at}
 use Rattle.lbm_arrays.proofs.LentReads.{length-lent, length-lent_range, get-lent_range}
 use Rattle.lbm_sweep.specs.Sweep.{IsCollided}
-use Rattle.lbm_sweep.specs.Blocks.{entry, IsSized, IsTable}
+use Rattle.lbm_cell.specs.Rows.{entry}
+use Rattle.lbm_sweep.specs.Blocks.{IsSized, IsTable}
 use Rattle.lbm_sweep.specs.Spans.{InRows, local}
 use Rattle.lbm_sweep.specs.Slabs.{Ranges, IsSlab, InColumns}
 use Rattle.lbm_sweep.specs.Regions.{range_slot, HasSlot, InEachSlab}

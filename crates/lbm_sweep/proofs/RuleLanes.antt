@@ -6,9 +6,11 @@ use Rattle.lbm_space.specs.Stencil.{Stencil, IsVelocitySet}
 use Rattle.lbm_model.specs.Case.{FlowCase, is_solid}
 use Rattle.lbm_model.specs.Flow.{is_sound, post}
 use Rattle.lbm_model.specs.Small.{size_limit}
-use Rattle.lbm_model.proofs.Local.{Agree, is_sound-agree, post-agree}
+use Rattle.lbm_cell.proofs.Agreement.{Agree}
+use Rattle.lbm_model.proofs.Local.{is_sound-agree, post-agree}
 use Rattle.lbm_sweep.specs.First.{IsFirst}
-use Rattle.lbm_sweep.specs.Blocks.{entry, AreLanes}
+use Rattle.lbm_cell.specs.Rows.{entry}
+use Rattle.lbm_sweep.specs.Blocks.{AreLanes}
 
 -- the populations of a lane
 abbrev pub lane : List (List ℤ) → ℕ → ℕ → ℤ

@@ -5,10 +5,12 @@ use Rattle.lbm_space.specs.Torus.{cells}
 use Rattle.lbm_model.specs.State.{FlowState, population}
 use Rattle.lbm_model.specs.declared.layout.Layout.{Layout}
 use Rattle.lbm_model.specs.Case.{FlowCase, IsCase, source}
-use Rattle.lbm_model.specs.Flow.{is_sound, post, least_failing}
+use Rattle.lbm_model.specs.Flow.{is_sound, post}
+use Rattle.lbm_cell.specs.Least.{least_failing}
 use Rattle.lbm_model.specs.Layout.{population_in}
-use Rattle.lbm_model.proofs.Least.{least_failing-all, least_failing-at}
-use Rattle.lbm_model.proofs.Local.{Agree, is_sound-agree, post-agree}
+use Rattle.lbm_cell.proofs.Least.{least_failing-all, least_failing-at}
+use Rattle.lbm_cell.proofs.Agreement.{Agree}
+use Rattle.lbm_model.proofs.Local.{is_sound-agree, post-agree}
 use Rattle.lbm_model.proofs.Neighbours.{source_known, target-source}
 use Rattle.lbm_model.proofs.States.{state_by-same}
 use Rattle.lbm_sweep.specs.First.{IsFirst}

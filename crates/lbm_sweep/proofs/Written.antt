@@ -4,7 +4,8 @@ use Rattle.std.proofs.lemmas.Bool.{cases_eq}
 use Rattle.std.proofs.lemmas.List.{places, get_or-set_other, length-set, length-replicate, get_or-replicate}
 use Rattle.lbm_arrays.specs.Ranges.{over, with_run}
 use Rattle.lbm_arrays.proofs.Ranges.{length-over, run_at}
-use Rattle.lbm_sweep.specs.Blocks.{entry, IsSized}
+use Rattle.lbm_cell.specs.Rows.{entry}
+use Rattle.lbm_sweep.specs.Blocks.{IsSized}
 
 pub zeros_sized : (q len : ℕ) → IsSized q len (replicate q (replicate len (pos 0)))
 zeros_sized q len = record {

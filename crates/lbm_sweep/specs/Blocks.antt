@@ -1,9 +1,6 @@
--- Rows of numbers: the lanes of a block, direction by direction, and the ranges of a loan, array by array.
-use Rattle.std.specs.Prelude.{◌≡◌, ℕ, ◌<◌, List, [], length, ℤ, pos, slice_index, slice_index_or}
-
--- place p of row k
-abbrev pub entry : List (List ℤ) → ℕ → ℕ → ℤ
-entry rows k p = slice_index_or (slice_index_or rows k []) p (pos 0)
+-- The lanes of a block, direction by direction, and the ranges of a loan, array by array.
+use Rattle.std.specs.Prelude.{◌≡◌, ℕ, ◌<◌, List, [], length, ℤ, slice_index, slice_index_or}
+use Rattle.lbm_cell.specs.Rows.{entry}
 
 -- lane j of the first n has the populations f j, of which a cell has q
 abbrev pub AreLanes : (q n : ℕ) (f : ℕ → ℕ → ℤ) (rows : List (List ℤ)) → Type 0

@@ -1,7 +1,8 @@
 -- Laws of sources.
 use Rattle.std.proofs.Common.{◌≡◌, ℕ, ◌<◌, List, ℤ, sym, ◌∙◌, arith}
 use Rattle.lbm_space.specs.Torus.{Torus}
-use Rattle.lbm_sweep.specs.Blocks.{entry, IsSized}
+use Rattle.lbm_cell.specs.Rows.{entry}
+use Rattle.lbm_sweep.specs.Blocks.{IsSized}
 use Rattle.lbm_sweep.specs.Spans.{local, SameFrom}
 
 -- rows that have the sizes of sized rows are sized as they are

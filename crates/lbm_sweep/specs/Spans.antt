@@ -3,7 +3,7 @@
 use Rattle.std.specs.Prelude.{◌≡◌, ℕ, ◌+◌, ◌-◌, ◌/◌, ◌<◌, ◌≤◌, List, ℤ}
 use Rattle.lbm_space.specs.Torus.{Torus, cells, rows as row_count}
 use Rattle.lbm_space.specs.Padded.{padded_index, row_start}
-use Rattle.lbm_sweep.specs.Blocks.{entry}
+use Rattle.lbm_cell.specs.Rows.{entry}
 use Rattle.lbm_sweep.specs.declared.source.Span.{Span}
 
 -- a cell lies in these rows

@@ -1,7 +1,8 @@
 //! Blocks of up to eight neighbouring cells.
 
 ghost use Rattle.std.specs.Prelude.{◌≡◌, ◌⊎◌, ◌+◌, ◌<◌, ◌≤◌, ℕ, length, slice_index};
-ghost use Rattle.lbm_sweep.specs.Blocks.{entry, IsSized, IsTable};
+ghost use Rattle.lbm_cell.specs.Rows.{entry};
+ghost use Rattle.lbm_sweep.specs.Blocks.{IsSized, IsTable};
 
 use lbm_arrays::Loan;
 

@@ -3,7 +3,8 @@
 ghost use Rattle.std.specs.Prelude.{◌-◌, ◌≤◌, length, slice_index};
 ghost use Rattle.lbm_space.specs.Torus.{IsSpace, rows as row_count};
 ghost use Rattle.lbm_space.specs.Padded.{row_start};
-ghost use Rattle.lbm_sweep.specs.Blocks.{entry, IsSized, IsTable};
+ghost use Rattle.lbm_cell.specs.Rows.{entry};
+ghost use Rattle.lbm_sweep.specs.Blocks.{IsSized, IsTable};
 ghost use Rattle.lbm_sweep.specs.Spans.{local};
 ghost use Rattle.lbm_sweep.specs.Laws.{resized, own_place};
 

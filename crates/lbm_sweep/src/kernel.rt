@@ -2,7 +2,8 @@
 
 ghost use Rattle.std.specs.Prelude.{◌≡◌, ◌+◌, ◌<◌, ◌≤◌, ℕ, ℤ, Bool, None};
 ghost use Rattle.lbm_sweep.specs.First.{IsFirst};
-ghost use Rattle.lbm_sweep.specs.Blocks.{entry, AreLanes, IsSized};
+ghost use Rattle.lbm_cell.specs.Rows.{entry};
+ghost use Rattle.lbm_sweep.specs.Blocks.{AreLanes, IsSized};
 
 use crate::Block;
 

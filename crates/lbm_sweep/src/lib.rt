@@ -6,6 +6,7 @@
 #![tactic(auto)]
 
 mod block;
+mod falling;
 mod in_place;
 mod kernel;
 mod lattice;
@@ -19,6 +20,7 @@ mod step;
 mod tables;
 
 pub use block::Block;
+pub use falling::{FallingCollision, FallingSource, collide_falling};
 pub use in_place::InPlace;
 pub use kernel::Kernel;
 pub use lattice::{least_out_of_limits, place_state, population_at};
@@ -28,6 +30,3 @@ pub use slab::Collision;
 pub use source::{Source, Span};
 pub use step::collide;
 pub use tables::{Directions, opposite_directions, same_directions};
-
-#[cfg(test)]
-mod tests;

@@ -1,11 +1,7 @@
 //! The pads of all arrays of a region.
 
-ghost use Rattle.std.specs.Prelude.{◌≡◌, ◌<◌, ◌≤◌, ℕ};
-ghost use Rattle.lbm_space.specs.Stencil.{velocity};
-ghost use Rattle.lbm_space.specs.Torus.{cells, padded};
-ghost use Rattle.lbm_space.specs.Padded.{padded_index, place_ahead};
-ghost use Rattle.lbm_arrays.specs.Arrays.{held};
-ghost use Rattle.lbm_arrays.specs.Pads.{place_slot, stand};
+ghost use Rattle.std.specs.Prelude.{◌≡◌, ◌≤◌};
+ghost use Rattle.lbm_arrays.specs.Pads.{AreLoaded, AreStored};
 
 use lbm_arrays::Region;
 use lbm_space::VelocitySet;
@@ -16,7 +12,7 @@ use std::alloc::Allocator;
 pub fn load_all_pads<V: VelocitySet, A: Allocator>(region: &mut Region<A>, base: u32)
     requires count { region.old.count ≡ V.stencil.directions }
     requires base { base ≤ region.old.margin }
-    ensures loaded { (k p : ℕ) → k < V.stencil.directions → p < padded region.old.space → held region.new.slots (place_slot region.old.space region.old.margin k base p) ≡ held region.old.slots (place_slot region.old.space region.old.margin k base (stand region.old.space p)) }
+    ensures loaded { AreLoaded region.old.space V.stencil.directions region.old.margin base region.old.slots region.new.slots }
     ensures same { region.new ≡ record region.old { slots = region.new.slots } }
 {
     // Its type keeps the sizes of a region.
@@ -32,7 +28,7 @@ pub fn store_all_pads<V: VelocitySet, A: Allocator>(region: &mut Region<A>, base
     requires dimension { V.stencil.dimension ≡ region.old.space.dimension }
     requires count { region.old.count ≡ V.stencil.directions }
     requires base { base ≤ region.old.margin }
-    ensures stored { (k cell : ℕ) → k < V.stencil.directions → cell < cells region.old.space → held region.new.slots (place_slot region.old.space region.old.margin k base (stand region.old.space (place_ahead region.old.space (velocity V.stencil k) cell))) ≡ held region.old.slots (place_slot region.old.space region.old.margin k base (place_ahead region.old.space (velocity V.stencil k) cell)) }
+    ensures stored { AreStored region.old.space V.stencil region.old.margin base region.old.slots region.new.slots }
     ensures same { region.new ≡ record region.old { slots = region.new.slots } }
 {
     // Its type keeps the sizes of a region.

@@ -3,7 +3,8 @@
 ghost use Rattle.std.specs.Prelude.{◌≡◌, ◌≢◌, ◌≤◌, ◌<◌, ℕ, unsigned_abs};
 ghost use Rattle.lbm_space.specs.Torus.{cells};
 ghost use Rattle.lbm_cell.specs.Moments.{populations};
-ghost use Rattle.lbm_sweep.specs.Blocks.{entry, IsSized};
+ghost use Rattle.lbm_cell.specs.Rows.{entry};
+ghost use Rattle.lbm_sweep.specs.Blocks.{IsSized};
 ghost use Rattle.lbm_model.specs.Flow.{is_sound, post};
 ghost use Rattle.lbm_model.specs.Small.{size_limit};
 

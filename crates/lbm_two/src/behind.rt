@@ -1,12 +1,12 @@
 //! Cells that take their populations from the cells behind them, in another lattice.
 
-ghost use Rattle.std.specs.Prelude.{◌≡◌, ℕ, ◌*◌, ◌+◌, ◌^◌, ◌<◌, ◌≤◌, length, pos, ◌-ℤ◌, ◌≤ℤ◌, ◌<ℤ◌, unsigned_abs, refl, slice_index_or};
+ghost use Rattle.std.specs.Prelude.{◌≡◌, ℕ, ◌*◌, ◌+◌, ◌<◌, ◌≤◌, length, pos, refl, slice_index_or};
 ghost use Rattle.lbm_space.specs.Torus.{IsSpace, padded};
 ghost use Rattle.lbm_arrays.specs.Arrays.{held};
 ghost use Rattle.lbm_sweep.specs.Spans.{IsSpan};
 ghost use Rattle.lbm_two.specs.Behind.{slot_behind};
 
-use lbm_arrays::Loan;
+use lbm_arrays::{Loan, place_behind};
 use lbm_space::{Space, VelocitySet};
 use lbm_sweep::{Block, Source, Span};
 use std::marker::PhantomData;
@@ -63,18 +63,8 @@ impl<V: VelocitySet> Behind<'_, V> {
         ensures slots { (j : ℕ) → j < span.n → slot_behind self.now.space V.stencil (span.cell + j) i ≡ result + j }
         ensures inside { result + span.n ≤ length self.now.slots.now }
     {
-        let place = place_before(span.place, self.space.offset::<V>(i));
-        i * self.space.padded() as usize + place
+        i * self.space.padded() as usize + place_behind::<V>(&self.space, i, span.place) as usize
     }
-}
-
-// The place from which an offset leads to a place.
-fn place_before(place: u32, off: i64) -> usize
-    requires low { pos 0 ≤ℤ (pos place -ℤ off) }
-    requires high { (pos place -ℤ off) <ℤ pos (2 ^ 32) }
-    ensures { result ≡ unsigned_abs (pos place -ℤ off) }
-{
-    (i64::from(place) - off) as usize
 }
 
 // The numbers of a run of at most eight. The other lanes are 0.

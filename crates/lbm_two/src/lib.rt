@@ -6,6 +6,3 @@ mod behind;
 mod two;
 
 pub use two::Two;
-
-#[cfg(test)]
-mod tests;

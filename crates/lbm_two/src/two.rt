@@ -101,10 +101,11 @@ impl<V: VelocitySet, A: Allocator> Two<V, A> {
 impl<V: VelocitySet + Sync, A: Allocator> Two<V, A> {
     /// Goes on to the next state where all cells are in limits, and else names the least cell that is not, or the one that
     /// spent the lattice before. The slabs work beside each other, and each passes the gate first. The time is below
-    /// 1,000,000.
+    /// 1,000,000. No memory is wanted.
     pub fn step<R: Threads + Sync, G: Gate>(&mut self, rt: &R, gate: &G) -> Result<(), StepEnd>
         requires { self.old.time < 1000000 }
-        ensures { StepGives false (standing_by (λ time. two_layout) self.old) (standing_by (λ time. two_layout) self.new) result }
+        ensures step { StepGives ⟦<Self as Pattern>⟧.WANTS_MEMORY (standing_by (λ time. two_layout) self.old) (standing_by (λ time. two_layout) self.new) result }
+        ensures no_memory { ⟦<Self as Pattern>⟧.WANTS_MEMORY ≡ false }
     {
         if let Some(cell) = self.spent {
             return Err(StepEnd::Range(cell));

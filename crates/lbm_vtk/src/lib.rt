@@ -15,9 +15,6 @@ use lbm_cell::Moment;
 use lbm_space::Space;
 use lbm_store::{IoEnd, Pieces, Sink};
 
-#[cfg(test)]
-mod tests;
-
 /// How the numbers of a file are written.
 #[derive(Clone, Copy, Debug, PartialEq, Eq)]
 pub enum Format {

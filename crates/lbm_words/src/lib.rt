@@ -12,6 +12,3 @@ mod values;
 pub use end::WordsEnd;
 pub use read::request_of;
 pub use request::{Check, Choice, Demo, PatternKind, Request, Run};
-
-#[cfg(test)]
-mod tests;

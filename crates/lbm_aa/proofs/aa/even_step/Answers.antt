@@ -2,9 +2,10 @@ use Rattle.std.proofs.Common.{refl, sym, subst}
 use Rattle.lbm_model.specs.Layout.{aa_layout, state_in}
 use Rattle.lbm_arrays.specs.Arrays.{held}
 use Rattle.lbm_arrays.specs.declared.steps.Step.TheVariants.{InPlace}
+use Rattle.lbm_sweep.proofs.Cases.{small_taken}
 use Rattle.lbm_sweep.proofs.Steps.{written_is_step}
 use Rattle.lbm_aa.specs.Sweeps.{taken, sent_to}
-use Rattle.lbm_aa.proofs.Steps.{IsSame, AreOpposite, taken_even, sent_even, small_taken}
+use Rattle.lbm_aa.proofs.Steps.{IsSame, AreOpposite, taken_even, sent_even}
 use Rattle.lbm_aa.proofs.aa.even_step.Goals as goal
 
 pub sweep-requires-clause-small : goal.sweep-requires-clause-small

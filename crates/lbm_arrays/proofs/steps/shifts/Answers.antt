@@ -9,7 +9,8 @@ use Rattle.std.proofs.lemmas.List.FromFn.{fill_by_all}
 use Rattle.lbm_arrays.specs.LentRanges.{AreInside, IsLent}
 use Rattle.lbm_arrays.specs.declared.steps.Step.{Step}
 use Rattle.lbm_arrays.specs.Steps.{shift_of, step_shifts, touched, rising_strip, falling_strip, IsReadNear}
-use Rattle.lbm_arrays.proofs.Moves.{shifts_inside, touched_lent, read_rising, read_falling}
+use Rattle.lbm_arrays.proofs.Behind.{behind_inside}
+use Rattle.lbm_arrays.proofs.Moves.{shifts_inside, touches_arrays, touched_lent, read_rising, read_falling}
 use Rattle.lbm_arrays.proofs.steps.shifts.Goals as goal
 
 pub loop-k-preserved : goal.loop-k-preserved
@@ -40,6 +41,12 @@ pub returns-clause-inside : goal.returns-clause-inside
 returns-clause-inside g c margin room =
     let v = g.V.VelocitySet.stencil in let t = c.args.space.now in
     subst (AreInside t margin) (sym (returns-clause-table g c)) (shifts_inside t c.reach.ensures.valid v g.met.V.VelocitySet.laws c.requires c.args.step c.args.base margin room)
+
+pub returns-clause-within : goal.returns-clause-within
+returns-clause-within g c margin room = touches_arrays c.args.space.now c.reach.ensures.valid g.V.VelocitySet.stencil g.met.V.VelocitySet.laws c.requires c.args.step c.args.base margin room
+
+pub returns-clause-read : goal.returns-clause-read
+returns-clause-read g c cell k here known = behind_inside c.args.space.now c.reach.ensures.valid g.V.VelocitySet.stencil g.met.V.VelocitySet.laws c.requires k known cell here
 
 pub returns-clause-touched : goal.returns-clause-touched
 returns-clause-touched g c margin a b cell k room end here low high known =

@@ -1,5 +1,5 @@
 use Rattle.std.proofs.Common.{◌≡◌, ℕ, ◌<◌, Some, length, slice_get, take}
-use Rattle.lbm_board.specs.Models.{times}
+use Rattle.lbm_board.specs.Fields.{times}
 use Rattle.lbm_board.proofs.claims.write_at.Given as goal
 
 -- the value stands at the places passed, and nothing else has changed

@@ -4,7 +4,7 @@ use Rattle.std.proofs.lemmas.Option.{slice_get_within}
 use Rattle.atomic_table.specs.Table.{Me}
 use Rattle.lbm_board.specs.declared.record.View.{View}
 use Rattle.lbm_board.specs.Steps.{view_after_finish}
-use Rattle.lbm_board.specs.Models.{rotated, empty_slot}
+use Rattle.lbm_board.specs.Fields.{rotated, empty_slot}
 use Rattle.lbm_board.proofs.Rotated.{front_at, length_after, length-mapped, turned_back}
 use Rattle.lbm_board.proofs.holding.give_back_held.Goals as goal
 

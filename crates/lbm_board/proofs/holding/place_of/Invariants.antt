@@ -1,5 +1,5 @@
 use Rattle.std.proofs.Common.{◌-◌, ◌<◌, length, drop}
-use Rattle.lbm_board.specs.Models.{times}
+use Rattle.lbm_board.specs.Fields.{times}
 use Rattle.lbm_board.proofs.holding.place_of.Given as goal
 
 -- the number stands at this place or later

@@ -1,5 +1,5 @@
 use Rattle.std.proofs.Common.{◌≡◌}
-use Rattle.lbm_board.specs.Models.{rotated}
+use Rattle.lbm_board.specs.Fields.{rotated}
 use Rattle.lbm_board.proofs.holding.rotate_slots.Given as goal
 
 abbrev pub invariant-loop : goal.invariant-loop

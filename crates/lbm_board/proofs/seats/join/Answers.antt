@@ -8,7 +8,7 @@ pub split_seat-whole-requires : goal.split_seat-whole-requires
 split_seat-whole-requires g c = (
   c.requires.table.1,
   (let words = c.requires.table.2 in omega arith),
-  hand_over_allowed c.args.table.now.key.turns c.args.table.now.key.given.value.items c.args.other.id c.args.other.me.0 c.requires.filled.1,
+  hand_over_allowed c.args.table.now.key.turns c.args.table.now.key.given.value.items c.args.other.now.id c.args.other.now.me.0 c.requires.filled.1,
 )
 
 pub join_seat-requires : goal.join_seat-requires

@@ -4,7 +4,7 @@ use Rattle.std.specs.Str.{chars}
 use Rattle.toml.specs.View.{view}
 use Rattle.lbm_case.specs.Views.{text_of, drawing_view}
 use Rattle.lbm_case.specs.Drawing.{cells_of}
-use Rattle.lbm_case.proofs.Numbered.{moving_from-append, moving_in-from, cells_of-more, length-cells_of-take}
+use Rattle.lbm_case.proofs.Numbered.{moving_in-later, moving_from-append, moving_in-from, cells_of-more, length-cells_of-take}
 use Rattle.lbm_case.proofs.cells.moving_in.Goals as goal
 
 pub push_moving-requires : goal.push_moving-requires
@@ -22,7 +22,7 @@ loop-row-preserved c =
     let row = chars (text_of (view c.row-item.result)) in
     record {
       counted = rw (more, length-append before row, ← c.loop-row.invariant.counted, ← c.text_of.ensures) c.in_ok-first.ensures.next;
-      so_far = rw (more, moving_from-append 0 before row, zero-add, ← c.loop-row.invariant.counted, ← c.loop-row.invariant.so_far, ← c.text_of.ensures) c.in_ok-first.ensures.items;
+      so_far = rw (more, moving_from-append 0 before row, zero-add, ← c.loop-row.invariant.counted, ← c.loop-row.invariant.so_far, ← c.text_of.ensures, ← moving_in-later) c.in_ok-first.ensures.items;
     }
 
 pub returns : goal.returns

@@ -1,7 +1,7 @@
 use Rattle.std.proofs.Common.{◌≡◌, length, take}
 use Rattle.lbm_case.specs.Views.{drawing_view}
 use Rattle.lbm_case.specs.Drawing.{cells_of}
-use Rattle.lbm_case.specs.Moving.{moving_from}
+use Rattle.lbm_case.proofs.Numbered.{moving_from}
 use Rattle.lbm_case.proofs.cells.moving_in.Given as goal
 
 abbrev pub invariant-loop-row : goal.invariant-loop-row

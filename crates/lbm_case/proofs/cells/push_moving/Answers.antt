@@ -1,9 +1,9 @@
 use Rattle.std.proofs.Common.{◌+◌, ◌∙◌, sym, ap, [], ◌∷◌, ◌++◌, append_assoc, arith}
+use Rattle.std.specs.Str.{chars}
 use Rattle.std.proofs.lemmas.List.{length_push}
 use Rattle.std.proofs.lemmas.Iterator.{YieldsList-from_chars}
 use Rattle.std.proofs.lemmas.Iterator.Consumers.{YieldsList-end, YieldsList-turn}
-use Rattle.lbm_case.specs.Moving.{moving_from}
-use Rattle.lbm_case.proofs.Numbered.{same_items, moving_from-append}
+use Rattle.lbm_case.proofs.Numbered.{moving_from, same_items, moving_from-append, moving_in-later}
 use Rattle.lbm_case.proofs.cells.push_moving.Goals as goal
 
 pub overflow_add-number : goal.overflow_add-number
@@ -22,7 +22,8 @@ loop-c-preserved c = record {
 pub returns-clause-items : goal.returns-clause-items
 returns-clause-items c =
     let whole = (YieldsList-end (YieldsList-from_chars c.args.text.now c.utf8.text cc) c.loop-c.yielded _ c.loop-c.yielded_by _ _ c.in-None.is c.next.ensures.steps).0 in
-    c.loop-c.invariant.so_far ∙ ap (λ cs. c.args.moving.now.items ++ moving_from c.args.first cs) (sym (same_items c.loop-c.yielded) ∙ whole)
+    c.loop-c.invariant.so_far ∙ (ap (λ cs. c.args.moving.now.items ++ moving_from c.args.first cs) (sym (same_items c.loop-c.yielded) ∙ whole)
+    ∙ ap (λ xs. c.args.moving.now.items ++ xs) (sym (moving_in-later c.args.first (chars c.args.text.now))))
 
 pub returns-clause-next : goal.returns-clause-next
 returns-clause-next c =

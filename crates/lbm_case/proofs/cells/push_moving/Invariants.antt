@@ -1,5 +1,5 @@
 use Rattle.std.proofs.Common.{◌≡◌, ◌+◌, ◌++◌, length}
-use Rattle.lbm_case.specs.Moving.{moving_from}
+use Rattle.lbm_case.proofs.Numbered.{moving_from}
 use Rattle.lbm_case.proofs.cells.push_moving.Given as goal
 
 abbrev pub invariant-loop-c : goal.invariant-loop-c

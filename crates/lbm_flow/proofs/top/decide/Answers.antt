@@ -1,6 +1,6 @@
 use Rattle.std.proofs.lemmas.Result.{err_from_is_err_and}
 use Rattle.lbm_words.specs.Request.{request_view}
-use Rattle.lbm_flow.proofs.Requests.{for-words}
+use Rattle.lbm_answer.proofs.Requests.{for-words}
 use Rattle.lbm_flow.proofs.top.decide.Goals as goal
 
 pub returns-in_err-run : goal.returns-in_err-run

@@ -2,12 +2,12 @@ use Rattle.std.proofs.Common.{◌∙◌, ◌≤◌, List, ℕ, None, length, ref
 use Rattle.std.proofs.lemmas.Result.{err_from_is_err_and}
 use Rattle.lbm_store.specs.Outside.{StoreState}
 use Rattle.lbm_words.specs.Request.{demo_view}
-use Rattle.lbm_flow.specs.Outcome.{Job}
-use Rattle.lbm_flow.specs.Answer.{DecidesFor, asked_of, asked_of_job}
+use Rattle.lbm_answer.specs.Outcome.{Job}
+use Rattle.lbm_answer.specs.Answer.{DecidesFor, asked_of, asked_of_job}
 use Rattle.lbm_words.specs.Request.{demo}
-use Rattle.lbm_flow.proofs.GenLength.{length-gen}
-use Rattle.lbm_flow.proofs.Deciding.{for-memory}
-use Rattle.lbm_flow.proofs.Requests.{for-demo}
+use Rattle.lbm_answer.proofs.GenLength.{length-gen}
+use Rattle.lbm_answer.proofs.Deciding.{for-memory}
+use Rattle.lbm_answer.proofs.Requests.{for-demo}
 use Rattle.lbm_flow.proofs.top.decide_demo.Goals as goal
 
 pub returns-in_err-bytes : goal.returns-in_err-bytes

@@ -1,4 +1,4 @@
-use Rattle.lbm_model.proofs.Worked.{pushed, leaving, levelled, unmoved, crowded, boxed, mixed, pressed, slid}
+use Rattle.lbm_model.proofs.Worked.{pushed, leaving, levelled, unmoved, crowded, boxed, mixed, pressed, slid, kept}
 use Rattle.lbm_model.proofs.laws.worked_cases.Goals as goal
 
 pub returns : goal.returns
@@ -12,4 +12,5 @@ returns c = record {
   rates = mixed;
   pressing = pressed;
   sliding = slid;
+  layouts = kept;
 }

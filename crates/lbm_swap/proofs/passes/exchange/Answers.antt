@@ -8,11 +8,12 @@ use Rattle.lbm_arrays.specs.Arrays.{Arrays, IsRegion, held}
 use Rattle.lbm_arrays.specs.LentRanges.{IsLent, lent, slab_rows, AreInside, AreLent, IsForked}
 use Rattle.lbm_arrays.specs.declared.steps.Step.TheVariants.{Exchange}
 use Rattle.lbm_arrays.specs.Steps.{step_shifts}
+use Rattle.lbm_arrays.proofs.Moves.{length-shifts}
 use Rattle.lbm_sweep.specs.Blocks.{IsTable}
 use Rattle.lbm_sweep.specs.Lattices.{IsLaidOut}
 use Rattle.lbm_sweep.proofs.Lattices.{laid_again}
 use Rattle.lbm_swap.specs.Exchange.{IsReady, IsExchangedIn, AreExchanged}
-use Rattle.lbm_swap.proofs.Lent.{whole_region, count_shifts, table_in, shifts_are, shifts_inside, shifts_inside_region}
+use Rattle.lbm_sweep.proofs.Cases.{whole_region, table_in, shifts_are, shifts_inside, shifts_inside_region}
 use Rattle.lbm_swap.proofs.Regions.{slab_ready, region_exchanged}
 use Rattle.lbm_swap.proofs.passes.exchange.Goals as goal
 
@@ -24,15 +25,15 @@ module _ (case : FlowCase) (s : Stencil) (allowed : IsCase case) (set : case.ste
   opposites = subst (λ (w : Stencil). (i : ℕ) → i < w.directions → slice_index ps i ≡ opposite w i) (sym set) are_opposite
 
   table : IsTable case.stencil.directions ps
-  table = table_in case Exchange s set ps is_table
+  table = table_in case s set ps is_table
 
   are : moved ≡ step_shifts case.torus case.stencil Exchange 1
-  are = shifts_are case Exchange s set t moved space are_table
+  are = shifts_are case s set swap_layout Exchange 1 t moved space are_table
 
   ready : (j : ℕ) → j < slabs_of bounds → IsReady t given (slab_rows bounds j) (lent region.space region.margin moved (slab_rows bounds j) region.slots)
   ready j known =
       subst (λ (w : Torus × List ℕ × Torus × ℕ × List ℤ). IsReady w.0 w.1 (slab_rows bounds j) (lent w.2 w.3 w.4 (slab_rows bounds j) region.slots)) (λ i. (sym space i, sym same i, sym laid.space i, sym laid.margin i, sym are i))
-      (slab_ready case allowed ps table opposites (shifts_inside case Exchange s set t moved space are_table inside) (count_shifts case Exchange) bounds cutting fits region.slots (whole_region case region valid laid) j known)
+      (slab_ready case allowed ps table opposites (shifts_inside case s set swap_layout Exchange 1 t moved space are_table inside) (length-shifts case.torus case.stencil Exchange 1) bounds cutting fits region.slots (whole_region case swap_layout region valid laid) j known)
 
   exchanged : (new : Arrays) (answer : Option ℕ) → new ≡ record region { slots = new.slots } → IsRegion new → AreLent region.space region.margin moved bounds
       → IsForked (λ piece rows old result now. (result ≡ None) × IsExchangedIn t (length given) given rows (rows.0 * t.nx) (rows.1 * t.nx) old now) region.space region.margin moved bounds region.slots new.slots answer
@@ -40,8 +41,8 @@ module _ (case : FlowCase) (s : Stencil) (allowed : IsCase case) (set : case.ste
       → AreExchanged case region.slots new.slots
   exchanged new answer still valid' lents did others =
       let many : length given ≡ case.stencil.directions = ap length same ∙ table.count in
-      region_exchanged case allowed ps table opposites (shifts_inside case Exchange s set t moved space are_table inside) (count_shifts case Exchange) bounds cutting fits region.slots new.slots answer
-      (whole_region case region valid laid) (whole_region case new valid' (laid_again case swap_layout region new still laid))
+      region_exchanged case allowed ps table opposites (shifts_inside case s set swap_layout Exchange 1 t moved space are_table inside) (length-shifts case.torus case.stencil Exchange 1) bounds cutting fits region.slots new.slots answer
+      (whole_region case swap_layout region valid laid) (whole_region case swap_layout new valid' (laid_again case swap_layout region new still laid))
       (subst (λ (w : Torus × ℕ × List ℤ). AreLent w.0 w.1 w.2 bounds) (λ i. (laid.space i, laid.margin i, are i)) lents)
       (subst (λ (w : (Torus × ℕ × List ℕ) × Torus × ℕ × List ℤ). IsForked (λ piece rows old result now. (result ≡ None) × IsExchangedIn w.0.0 w.0.1 w.0.2 rows (rows.0 * w.0.0.nx) (rows.1 * w.0.0.nx) old now) w.1 w.2 w.3 bounds region.slots new.slots answer)
       (λ i. ((space i, many i, same i), laid.space i, laid.margin i, are i)) did)
@@ -49,12 +50,12 @@ module _ (case : FlowCase) (s : Stencil) (allowed : IsCase case) (set : case.ste
 
 pub fork-requires-clause-count : goal.fork-requires-clause-count
 fork-requires-clause-count g c κs within =
-    ap length (shifts_are c.args.case.now Exchange g.V.VelocitySet.stencil c.requires.set c.space.result.now c.shifts-moved.result.items c.space.ensures.value c.shifts-moved.ensures.table)
-    ∙ count_shifts c.args.case.now Exchange ∙ sym c.requires.laid.count
+    ap length (shifts_are c.args.case.now g.V.VelocitySet.stencil c.requires.set swap_layout Exchange 1 c.space.result.now c.shifts-moved.result.items c.space.ensures.value c.shifts-moved.ensures.table)
+    ∙ length-shifts c.args.case.now.torus c.args.case.now.stencil Exchange 1 ∙ sym c.requires.laid.count
 
 pub fork-requires-clause-inside : goal.fork-requires-clause-inside
 fork-requires-clause-inside g c κs within =
-    shifts_inside_region c.args.case.now Exchange g.V.VelocitySet.stencil c.requires.set c.space.result.now c.shifts-moved.result.items c.space.ensures.value c.shifts-moved.ensures.table
+    shifts_inside_region c.args.case.now g.V.VelocitySet.stencil c.requires.set swap_layout Exchange 1 c.space.result.now c.shifts-moved.result.items c.space.ensures.value c.shifts-moved.ensures.table
     c.args.region.now c.requires.laid (c.shifts-moved.ensures.inside 2 (omega arith, omega arith))
 
 pub fork-requires-clause-ready : goal.fork-requires-clause-ready

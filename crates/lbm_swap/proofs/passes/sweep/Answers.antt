@@ -1,4 +1,4 @@
-use Rattle.std.proofs.Common.{◌≡◌, ℕ, ◌-◌, ◌<◌, ◌≤◌, List, length, slice_index, ℤ, unsigned_abs, Option, sym, ap, ◌∙◌, subst, arith}
+use Rattle.std.proofs.Common.{◌≡◌, ℕ, ◌-◌, ◌<◌, ◌≤◌, List, length, slice_index, ℤ, unsigned_abs, sym, ap, ◌∙◌, subst, arith}
 use Rattle.std.proofs.lemmas.Int.{ints}
 use Rattle.lbm_space.specs.Stencil.{Stencil, opposite}
 use Rattle.lbm_space.specs.Torus.{Torus, IsSpace, cells, rows as row_count}
@@ -12,15 +12,17 @@ use Rattle.lbm_arrays.specs.Arrays.{Arrays, IsRegion, held}
 use Rattle.lbm_arrays.specs.LentRanges.{AreInside}
 use Rattle.lbm_arrays.specs.declared.steps.Step.TheVariants.{InPlace}
 use Rattle.lbm_arrays.specs.Steps.{step_shifts}
+use Rattle.lbm_arrays.proofs.Moves.{length-shifts}
 use Rattle.lbm_sweep.specs.Sweep.{IsCollided}
-use Rattle.lbm_sweep.specs.Blocks.{entry, IsSized, IsTable}
+use Rattle.lbm_cell.specs.Rows.{entry}
+use Rattle.lbm_sweep.specs.Blocks.{IsSized, IsTable}
 use Rattle.lbm_sweep.specs.Spans.{local}
 use Rattle.lbm_sweep.specs.Regions.{range_slot, HasSlot, InEachSlab}
 use Rattle.lbm_sweep.specs.Lattices.{IsLaidOut}
 use Rattle.lbm_sweep.proofs.OwnPlaces.{slot_touched, own_ready, own_taken}
 use Rattle.lbm_sweep.proofs.Lattices.{population-state_in}
 use Rattle.lbm_swap.specs.Exchange.{slot_in}
-use Rattle.lbm_swap.proofs.Lent.{whole_region, count_shifts, table_in, shifts_are, shifts_inside, shifts_inside_region}
+use Rattle.lbm_sweep.proofs.Cases.{whole_region, table_in, shifts_are, shifts_inside, shifts_inside_region, collided_in}
 use Rattle.lbm_swap.proofs.passes.sweep.Given as given
 use Rattle.lbm_swap.proofs.passes.sweep.Goals as goal
 
@@ -31,12 +33,12 @@ slot_own case allowed k x known here =
 
 pub collide-requires-clause-count : goal.collide-requires-clause-count
 collide-requires-clause-count g c κs within =
-    ap length (shifts_are c.args.case.now InPlace g.V.VelocitySet.stencil c.requires.set c.space.result.now c.shifts-moved.result.items c.space.ensures.value c.shifts-moved.ensures.table)
-    ∙ count_shifts c.args.case.now InPlace ∙ sym c.requires.laid.count
+    ap length (shifts_are c.args.case.now g.V.VelocitySet.stencil c.requires.set swap_layout InPlace 1 c.space.result.now c.shifts-moved.result.items c.space.ensures.value c.shifts-moved.ensures.table)
+    ∙ length-shifts c.args.case.now.torus c.args.case.now.stencil InPlace 1 ∙ sym c.requires.laid.count
 
 pub collide-requires-clause-inside : goal.collide-requires-clause-inside
 collide-requires-clause-inside g c κs within =
-    shifts_inside_region c.args.case.now InPlace g.V.VelocitySet.stencil c.requires.set c.space.result.now c.shifts-moved.result.items c.space.ensures.value c.shifts-moved.ensures.table
+    shifts_inside_region c.args.case.now g.V.VelocitySet.stencil c.requires.set swap_layout InPlace 1 c.space.result.now c.shifts-moved.result.items c.space.ensures.value c.shifts-moved.ensures.table
     c.args.region.now c.requires.laid (c.shifts-moved.ensures.inside 2 (omega arith))
 
 module _ (case : FlowCase) (s : Stencil) (allowed : IsCase case) (set : case.stencil ≡ s) (region : Arrays) (laid : IsLaidOut case swap_layout region) (valid : IsRegion region)
@@ -47,13 +49,13 @@ module _ (case : FlowCase) (s : Stencil) (allowed : IsCase case) (set : case.ste
   shifts = step_shifts case.torus case.stencil InPlace 1
 
   are : moved ≡ shifts
-  are = shifts_are case InPlace s set t moved space are_table
+  are = shifts_are case s set swap_layout InPlace 1 t moved space are_table
 
   all_inside : AreInside case.torus 2 shifts
-  all_inside = shifts_inside case InPlace s set t moved space are_table inside
+  all_inside = shifts_inside case s set swap_layout InPlace 1 t moved space are_table inside
 
   table : IsTable case.stencil.directions reads
-  table = table_in case InPlace s set reads is_table
+  table = table_in case s set reads is_table
 
   same_own : (i : ℕ) → i < case.stencil.directions → slice_index reads i ≡ i
   same_own = subst (λ (w : Stencil). (i : ℕ) → i < w.directions → slice_index reads i ≡ i) (sym set) are_same
@@ -67,14 +69,14 @@ module _ (case : FlowCase) (s : Stencil) (allowed : IsCase case) (set : case.ste
       subst (λ (w : (Torus × ℕ × List ℤ) × Stencil × List ℕ). InEachSlab w.0.0 w.0.1 w.0.2 bounds region.slots (λ rows ranges cell. (i : ℕ) → i < w.1.directions → entry ranges (slice_index w.2 i) (local t rows cell) ≡ population_in case swap_layout region.slots cell i))
       (λ i. ((sym laid.space i, sym laid.margin i, sym are i), set i, sym same i))
       (λ k cell slab here i less.
-      own_taken case.torus allowed.space 2 shifts all_inside case.stencil.directions (count_shifts case InPlace) bounds cutting fits region.slots (whole_region case region valid laid) reads table t space k cell slab here i less
+      own_taken case.torus allowed.space 2 shifts all_inside case.stencil.directions (length-shifts case.torus case.stencil InPlace 1) bounds cutting fits region.slots (whole_region case swap_layout region valid laid) reads table t space k cell slab here i less
       ∙ found cell i here.known less)
 
   ready : InEachSlab region.space region.margin moved bounds region.slots (λ rows ranges cell. IsSpace t × IsTable (length given) given × (length given ≤ 27) × (rows.1 ≤ row_count t) × IsSized (length given) (row_start t rows.1 - row_start t rows.0) ranges)
   ready =
       subst (λ (w : (Torus × ℕ × List ℤ) × List ℕ). InEachSlab w.0.0 w.0.1 w.0.2 bounds region.slots (λ rows ranges cell. IsSpace t × IsTable (length w.1) w.1 × (length w.1 ≤ 27) × (rows.1 ≤ row_count t) × IsSized (length w.1) (row_start t rows.1 - row_start t rows.0) ranges))
       (λ i. ((sym laid.space i, sym laid.margin i, sym are i), sym same i))
-      (own_ready case.torus allowed.space 2 shifts all_inside case.stencil.directions (count_shifts case InPlace) bounds cutting fits region.slots (whole_region case region valid laid) reads table t space allowed.set.few_directions)
+      (own_ready case.torus allowed.space 2 shifts all_inside case.stencil.directions (length-shifts case.torus case.stencil InPlace 1) bounds cutting fits region.slots (whole_region case swap_layout region valid laid) reads table t space allowed.set.few_directions)
 
   small : (rule : FlowCase) → rule ≡ case → IsSmall case (state_in case swap_layout region.slots)
       → InEachSlab region.space region.margin moved bounds region.slots (λ rows ranges cell. (i : ℕ) → i < s.directions → unsigned_abs (entry ranges (slice_index given i) (local t rows cell)) ≤ size_limit rule cell)
@@ -82,14 +84,6 @@ module _ (case : FlowCase) (s : Stencil) (allowed : IsCase case) (set : case.ste
       let here' : cell < cells case.torus = subst (λ (u : Torus). cell < cells u) laid.space here.known in let less' : i < case.stencil.directions = subst (λ (w : Stencil). i < w.directions) (sym set) less in
       let own : unsigned_abs (population_in case swap_layout region.slots cell i) ≤ size_limit case cell = subst (λ (z : ℤ). unsigned_abs z ≤ size_limit case cell) (population-state_in case swap_layout region.slots cell i here' less') (within.within cell i here' less') in
       subst (λ (w : ℤ × FlowCase). unsigned_abs w.0 ≤ size_limit w.1 cell) (λ j. (sym (taken k cell slab here i less) j, sym is j)) own
-
-  -- what the collision says
-  collided : (rule : FlowCase) (writes sends : List ℕ) (new : List ℤ) (answer : Option ℕ) → rule ≡ case → sends ≡ writes
-      → IsCollided (is_sound rule) (post rule) s.directions (population_in case swap_layout region.slots) (λ cell i. range_slot region.space region.margin moved (slice_index sends i) cell) (HasSlot region.space region.margin moved s.directions) 0 (cells region.space) (held region.slots) (held new) answer
-      → IsCollided (is_sound case) (post case) case.stencil.directions (population_in case swap_layout region.slots) (λ cell i. range_slot case.torus 2 shifts (slice_index writes i) cell) (HasSlot case.torus 2 shifts case.stencil.directions) 0 (cells case.torus) (held region.slots) (held new) answer
-  collided rule writes sends new answer is are_sends all =
-      subst (λ (w : FlowCase × Torus × ℕ × List ℤ × List ℕ × Stencil). IsCollided (is_sound w.0) (post w.0) w.5.directions (population_in case swap_layout region.slots) (λ cell i. range_slot w.1 w.2 w.3 (slice_index w.4 i) cell) (HasSlot w.1 w.2 w.3 w.5.directions) 0 (cells w.1) (held region.slots) (held new) answer)
-      (λ i. (is i, laid.space i, laid.margin i, are i, are_sends i, sym set i)) all
 
 pub collide-requires-clause-ready : goal.collide-requires-clause-ready
 collide-requires-clause-ready g c κs within =
@@ -112,11 +106,9 @@ all : (g : given.Over) (c : goal.After-collide g)
     (HasSlot c.args.case.now.torus 2 (step_shifts c.args.case.now.torus c.args.case.now.stencil InPlace 1) c.args.case.now.stencil.directions) 0 (cells c.args.case.now.torus) (held c.args.region.now.slots) (held c.collide.new.region.slots) c.collide.result
 all g c =
     let before = population_in c.args.case.now swap_layout c.args.region.now.slots in
-    collided c.args.case.now g.V.VelocitySet.stencil c.requires.valid c.requires.set c.args.region.now c.requires.laid c.slots-slots.ensures.valid
-    c.space.result.now c.shifts-moved.result.items c.space.ensures.value c.shifts-moved.ensures.table (c.shifts-moved.ensures.inside 2 (omega arith))
-    c.same_directions-reads.result.items c.as_slice.result.now c.as_slice.ensures.value c.same_directions-reads.ensures.table c.same_directions-reads.ensures.same
-    c.args.cut.now c.slabs-slabs.ensures.cutting c.requires.cutting
-    c.of-rule.result c.opposite_directions-writes.result.items c.as_slice-2.result.now c.collide.new.region.slots c.collide.result c.of-rule.ensures c.as_slice-2.ensures.value
+    collided_in c.args.case.now g.V.VelocitySet.stencil c.requires.set swap_layout c.args.region.now c.of-rule.result c.shifts-moved.result.items (step_shifts c.args.case.now.torus c.args.case.now.stencil InPlace 1)
+    c.as_slice-2.result.now c.opposite_directions-writes.result.items before (held c.args.region.now.slots) (held c.collide.new.region.slots) c.collide.result c.requires.laid c.of-rule.ensures
+    (shifts_are c.args.case.now g.V.VelocitySet.stencil c.requires.set swap_layout InPlace 1 c.space.result.now c.shifts-moved.result.items c.space.ensures.value c.shifts-moved.ensures.table) c.as_slice-2.ensures.value
     (c.collide.ensures.collided before (taken c.args.case.now g.V.VelocitySet.stencil c.requires.valid c.requires.set c.args.region.now c.requires.laid c.slots-slots.ensures.valid
     c.space.result.now c.shifts-moved.result.items c.space.ensures.value c.shifts-moved.ensures.table (c.shifts-moved.ensures.inside 2 (omega arith))
     c.same_directions-reads.result.items c.as_slice.result.now c.as_slice.ensures.value c.same_directions-reads.ensures.table c.same_directions-reads.ensures.same

@@ -1,7 +1,8 @@
 use Rattle.std.proofs.Common.{◌≡◌, ◌+◌, ◌≤◌, ℕ, inl, inr, [], length, get_or, take, sym, subst, ◌≢◌, ap, ◌∙◌, arith}
 use Rattle.std.proofs.lemmas.Bool.{cases_lt}
 use Rattle.lbm_arrays.specs.Ranges.{with_run}
-use Rattle.lbm_sweep.specs.Blocks.{entry, IsSized}
+use Rattle.lbm_cell.specs.Rows.{entry}
+use Rattle.lbm_sweep.specs.Blocks.{IsSized}
 use Rattle.lbm_sweep.proofs.Written.{run_sized, run_here, run_other, run_off}
 use Rattle.lbm_sweep.proofs.block.scatter.Goals as goal
 

@@ -5,7 +5,7 @@ use Rattle.lbm_cell.specs.Moments.{populations}
 use Rattle.lbm_model.specs.State.{population}
 use Rattle.lbm_model.specs.Flow.{is_sound}
 use Rattle.lbm_model.specs.Layout.{state_in}
-use Rattle.lbm_model.proofs.Least.{least_failing-all, least_failing-at}
+use Rattle.lbm_cell.proofs.Least.{least_failing-all, least_failing-at}
 use Rattle.lbm_sweep.proofs.Lattices.{small_fits, read_sound}
 use Rattle.lbm_sweep.proofs.lattice.least_out_of_limits.Goals as goal
 

@@ -1,9 +1,8 @@
-use Rattle.std.proofs.Common.{◌≡◌, ap, arith}
+use Rattle.std.proofs.Common.{arith}
 use Rattle.lbm_space.specs.Torus.{padded}
-use Rattle.lbm_arrays.specs.Arrays.{Arrays}
 use Rattle.lbm_arrays.specs.Pads.{stand}
 use Rattle.lbm_arrays.proofs.Padding.{same_again, stand_below}
-use Rattle.lbm_sweep.proofs.Copied.{same_space, same_count, same_margin, copied_next, loaded_in}
+use Rattle.lbm_sweep.proofs.Copied.{same_count, same_margin, copied_next, loaded_in}
 use Rattle.lbm_sweep.proofs.padding.load_all_pads.Goals as goal
 
 pub load_pads-requires-clause-dir : goal.load_pads-requires-clause-dir

@@ -1,9 +1,8 @@
-use Rattle.std.proofs.Common.{◌≡◌, ◌<◌, ap, arith}
+use Rattle.std.proofs.Common.{◌<◌, arith}
 use Rattle.lbm_space.specs.Stencil.{velocity}
 use Rattle.lbm_space.specs.Torus.{cells}
 use Rattle.lbm_space.specs.Padded.{place_ahead}
 use Rattle.lbm_space.proofs.Offsets.{place_ahead_below}
-use Rattle.lbm_arrays.specs.Arrays.{Arrays}
 use Rattle.lbm_arrays.specs.Pads.{stand}
 use Rattle.lbm_arrays.proofs.Padding.{same_again, stand_below}
 use Rattle.lbm_sweep.proofs.Copied.{same_space, same_count, same_margin, copied_next, stored_in}

@@ -1,6 +1,6 @@
 use Rattle.std.proofs.Common.{◌≡◌, ◌<◌, ℕ, length}
 use Rattle.lbm_cell.specs.Moments.{populations}
-use Rattle.lbm_sweep.specs.Blocks.{entry}
+use Rattle.lbm_cell.specs.Rows.{entry}
 use Rattle.lbm_sweep.proofs.rule.lane.Given as goal
 
 abbrev pub invariant-loop-i : goal.invariant-loop-i

@@ -1,6 +1,7 @@
 use Rattle.std.proofs.Common.{◌≡◌, ◌≢◌, ◌<◌, ℕ}
 use Rattle.lbm_cell.specs.Moments.{populations}
-use Rattle.lbm_sweep.specs.Blocks.{entry, IsSized}
+use Rattle.lbm_cell.specs.Rows.{entry}
+use Rattle.lbm_sweep.specs.Blocks.{IsSized}
 use Rattle.lbm_sweep.proofs.rule.set_lane.Given as goal
 
 abbrev pub invariant-loop-i : goal.invariant-loop-i

@@ -1,23 +1,21 @@
-use Rattle.std.proofs.Common.{◌≡◌, ℕ, ◌<◌, ◌≤◌, List, ℤ, pos, ◌+ℤ◌, length, slice_index, unsigned_abs, refl, sym, ap, subst, ◌∙◌, arith}
-use Rattle.std.specs.Prelude.{Option}
-use Rattle.std.proofs.lemmas.List.FromFn.{length-map-range_with_len}
+use Rattle.std.proofs.Common.{◌≡◌, ℕ, ◌<◌, ◌≤◌, List, ℤ, length, slice_index, unsigned_abs, refl, sym, ap, subst, ◌∙◌, arith}
 use Rattle.lbm_space.specs.Stencil.{Stencil}
 use Rattle.lbm_space.specs.Torus.{Torus, cells}
 use Rattle.lbm_model.specs.Case.{FlowCase, IsCase}
-use Rattle.lbm_model.specs.Flow.{is_sound, post}
 use Rattle.lbm_model.specs.Small.{size_limit}
 use Rattle.lbm_model.specs.Layout.{two_layout, state_in}
 use Rattle.lbm_arrays.specs.Arrays.{Arrays, held}
+use Rattle.lbm_arrays.specs.Pads.{AreLoaded}
 use Rattle.lbm_arrays.specs.LentRanges.{AreInside}
 use Rattle.lbm_arrays.specs.declared.steps.Step.TheVariants.{InPlace}
-use Rattle.lbm_arrays.specs.Steps.{shift_of, step_shifts}
-use Rattle.lbm_sweep.specs.Sweep.{IsCollided}
-use Rattle.lbm_sweep.specs.Regions.{range_slot, HasSlot}
+use Rattle.lbm_arrays.specs.Steps.{step_shifts}
+use Rattle.lbm_arrays.proofs.Moves.{length-shifts}
 use Rattle.lbm_sweep.specs.Lattices.{IsLaidOut}
 use Rattle.lbm_sweep.specs.Steps.{IsTaken}
+use Rattle.lbm_sweep.proofs.Cases.{collided_in}
 use Rattle.lbm_sweep.proofs.Steps.{sweep_is_step}
 use Rattle.lbm_two.specs.Behind.{slot_behind}
-use Rattle.lbm_two.proofs.Steps.{AreLoaded, loaded, stored}
+use Rattle.lbm_two.proofs.Steps.{loaded, stored}
 use Rattle.lbm_two.proofs.two.advance.Goals as goal
 
 -- The same in the case's own terms: the space, the set and the rule of the calls are those of the case.
@@ -25,23 +23,16 @@ module _ (case : FlowCase) (v : Stencil) (allowed : IsCase case) (set : case.ste
   directions : v.directions ≡ case.stencil.directions
   directions = ap (λ (w : Stencil). w.directions) (sym set)
 
-  taken : (now : Arrays) (t : Torus) (new slots : List ℤ) → IsLaidOut case two_layout now → t ≡ case.torus → slots ≡ new → AreLoaded now.space v.directions now.margin now.slots new
+  taken : (now : Arrays) (t : Torus) (new slots : List ℤ) → IsLaidOut case two_layout now → t ≡ case.torus → slots ≡ new → AreLoaded now.space v.directions now.margin 0 now.slots new
       → IsTaken case (state_in case two_layout now.slots) (λ x i. held slots (slot_behind t v x i))
   taken now t new slots laid space same pads x i here known =
-      let pads' : AreLoaded case.torus case.stencil.directions 0 now.slots new = subst (λ (w : Torus × ℕ × ℕ). AreLoaded w.0 w.1 w.2 now.slots new) (λ j. (laid.space j, directions j, laid.margin j)) pads in
+      let pads' : AreLoaded case.torus case.stencil.directions 0 0 now.slots new = subst (λ (w : Torus × ℕ × ℕ). AreLoaded w.0 w.1 w.2 0 now.slots new) (λ j. (laid.space j, directions j, laid.margin j)) pads in
       (λ j. held (same j) (slot_behind (space j) (sym set j) x i)) ∙ loaded case allowed now.slots new pads' x i here known
-
-  collided : (rule : FlowCase) (next : Arrays) (moved : List ℤ) (table : List ℕ) (before : ℕ → ℕ → ℤ) (new : List ℤ) (answer : Option ℕ) → IsLaidOut case two_layout next → rule ≡ case → moved ≡ step_shifts case.torus case.stencil InPlace 0
-      → IsCollided (is_sound rule) (post rule) v.directions before (λ x i. range_slot next.space next.margin moved (slice_index table i) x) (HasSlot next.space next.margin moved v.directions) 0 (cells next.space) (held next.slots) (held new) answer
-      → IsCollided (is_sound case) (post case) case.stencil.directions before (λ x i. range_slot case.torus 0 (step_shifts case.torus case.stencil InPlace 0) (slice_index table i) x) (HasSlot case.torus 0 (step_shifts case.torus case.stencil InPlace 0) case.stencil.directions) 0 (cells case.torus) (held next.slots) (held new) answer
-  collided rule next moved table before new answer laid is shifts all =
-      subst (λ (w : FlowCase × Torus × ℕ × List ℤ × ℕ). IsCollided (is_sound w.0) (post w.0) w.4 before (λ x i. range_slot w.1 w.2 w.3 (slice_index table i) x) (HasSlot w.1 w.2 w.3 w.4) 0 (cells w.1) (held next.slots) (held new) answer)
-      (λ j. (is j, laid.space j, laid.margin j, shifts j, directions j)) all
 
 pub collide-requires-clause-count : goal.collide-requires-clause-count
 collide-requires-clause-count g c κs within =
     let v = g.V.VelocitySet.stencil in
-    ap length c.shifts-moved.ensures.table ∙ length-map-range_with_len (λ k. pos 0 +ℤ shift_of c.space.result.now v InPlace k) 0 v.directions
+    ap length c.shifts-moved.ensures.table ∙ length-shifts c.space.result.now v InPlace 0
     ∙ ap (λ (w : Stencil). w.directions) (sym c.requires.set) ∙ sym c.requires.next.count
 
 pub collide-requires-clause-inside : goal.collide-requires-clause-inside
@@ -66,5 +57,6 @@ returns-clause-step g c =
     ap (λ (l : List ℕ). slice_index l i) c.as_slice.ensures.value ∙ c.same_directions-writes.ensures.same i (subst (λ (w : Stencil). i < w.directions) c.requires.set known) in
     sweep_is_step case (state_in case two_layout c.args.now.now.slots) two_layout before _ _ _ _ c.collide.new.region.slots c.collide.result c.space.ensures.valid
     (taken case v c.space.ensures.valid c.requires.set c.args.now.now t c.load_all_pads.new.region.slots slots c.requires.now c.space.ensures.value c.slots.ensures.value c.load_all_pads.ensures.loaded)
-    (collided case v c.space.ensures.valid c.requires.set c.of-rule.result c.args.next.now c.shifts-moved.result.items table before c.collide.new.region.slots c.collide.result c.requires.next c.of-rule.ensures moved (c.collide.ensures.collided before (λ k cell slab row i known. refl)))
+    (collided_in case v c.requires.set two_layout c.args.next.now c.of-rule.result c.shifts-moved.result.items (step_shifts case.torus case.stencil InPlace 0) table table before (held c.args.next.now.slots) (held c.collide.new.region.slots) c.collide.result c.requires.next c.of-rule.ensures moved refl
+    (c.collide.ensures.collided before (λ k cell slab row i known. refl)))
     (λ none. stored case c.space.ensures.valid table c.collide.new.region.slots same)

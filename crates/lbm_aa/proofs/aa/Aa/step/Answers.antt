@@ -10,8 +10,8 @@ pub invariant_of-self-2 : goal.invariant_of-self-2
 invariant_of-self-2 g c =
     let p = c.self.inside in kept-stepped g.V.VelocitySet.stencil p.case p.time p.region c.advance-answer.new.region p.cut p.spent c.in_default.is c.self.invariant c.in_default-answer.ensures.step c.in_default-answer.ensures.same
 
-pub returns : goal.returns
-returns g c =
+pub returns-clause-step : goal.returns-clause-step
+returns-clause-step g c =
     let p = c.self.inside in let new = c.advance-answer.new.region.slots in
     let now : Lattice = record { case = p.case; time = p.time; spent = p.spent; slots = p.region.slots } in
     subst (λ (l : Lattice). (stopped_at (standing_by aa_layout l) ≡ None) × (standing_by aa_layout (record now { time = p.time + 1; slots = new }) ≡ stepped (standing_by aa_layout l))) c.self.view_is

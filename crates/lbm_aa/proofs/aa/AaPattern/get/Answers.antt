@@ -8,7 +8,7 @@ use Rattle.lbm_model.specs.Layout.{aa_layout, population_in}
 use Rattle.lbm_model.specs.Small.{IsSmall}
 use Rattle.lbm_model.proofs.States.{population-state_by}
 use Rattle.lbm_sweep.specs.Lattices.{Lattice, standing_by}
-use Rattle.lbm_aa.proofs.Steps.{fits_small}
+use Rattle.lbm_sweep.proofs.Lattices.{population-state_in, small_fits}
 use Rattle.lbm_aa.proofs.aa.AaPattern.get.Given as given
 use Rattle.lbm_aa.proofs.aa.AaPattern.get.Goals as goal
 
@@ -31,7 +31,8 @@ returns-clause-value g c =
 
 pub returns-clause-fits : goal.returns-clause-fits
 returns-clause-fits g c =
+    let l = c.args.self.now in
     let fits : FitsSigned w64 c.population_at.result = search rules in
     let fresh = none_of c.self.inside.spent (subst (λ (l : Lattice). IsNone l.spent) (sym c.self.view_is) c.requires.not_spent) in
     let small = subst (λ (l : Lattice). IsSmall l.case (standing_by aa_layout l).state) c.self.view_is (c.self.invariant.small fresh) in
-    subst (FitsSigned w32) (sym (to_z-of_z w64 c.population_at.result fits ∙ value g c)) (fits_small c.args.self.now.case (standing_by aa_layout c.args.self.now).state c.args.cell c.args.dir small c.requires.cell c.requires.direction)
+    subst (FitsSigned w32) (sym (to_z-of_z w64 c.population_at.result fits ∙ value g c)) (subst (FitsSigned w32) (sym (population-state_in l.case (aa_layout l.time) l.slots c.args.cell c.args.dir c.requires.cell c.requires.direction)) (small_fits l.case (aa_layout l.time) l.slots small c.args.cell c.args.dir c.requires.cell c.requires.direction))

@@ -4,7 +4,8 @@ use Rattle.atomic_table.specs.Table.{Me}
 use Rattle.lbm_board.specs.declared.record.View.{View}
 use Rattle.lbm_board.specs.Entries.{Holds, only}
 use Rattle.lbm_board.specs.Steps.{view_after_finish}
-use Rattle.lbm_board.specs.Models.{TurnModel, empty_slot}
+use Rattle.lbm_board.specs.Models.{TurnModel}
+use Rattle.lbm_board.specs.Fields.{empty_slot}
 use Rattle.lbm_board.proofs.Counts.{same_counts, other_counts_not}
 use Rattle.lbm_board.proofs.Records.{told_after_finish, still_holds, holds_no_more}
 use Rattle.lbm_board.proofs.Turns.{moved, after_finish}

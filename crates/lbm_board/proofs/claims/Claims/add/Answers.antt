@@ -1,5 +1,6 @@
 use Rattle.std.proofs.Common.{ℕ, ◌<◌, List, ◌∷◌, ap, sym, subst, ◌∙◌, vec_capacity}
-use Rattle.lbm_board.specs.Models.{TurnModel, times}
+use Rattle.lbm_board.specs.Models.{TurnModel}
+use Rattle.lbm_board.specs.Fields.{times}
 use Rattle.lbm_board.specs.Closing.{AreClaims}
 use Rattle.lbm_board.proofs.ClaimsAdded.{claims_added}
 use Rattle.lbm_board.proofs.claims.Claims.add.Goals as goal

@@ -27,13 +27,13 @@ first_near : (c : After-stepped-x) (l : ℕ) → l < 8 → (slice_index c.steppe
 first_near c l known =
     let s = c.requires.sound l known in
     near (slice_index c.stepped-x.result l) (slice_index c.all.result l) 0 (part c.args.c.now 0 *ℤ (pos (slice_index c.args.self.now.x l) -ℤ pos 8388608)) (first c l known)
-    (share (part c.args.c.now 0) (slice_index c.args.self.now.x l) (slice_index c.args.self.now.rho l) (c.requires.units 0 (lit< tt)) s.x_small s.not_dense) (omega (arith, c.all.ensures l known)) (omega (arith, c.all.ensures l known))
+    (share (part c.args.c.now 0) (slice_index c.args.self.now.x l) (slice_index c.args.self.now.cells.rho l) (c.requires.units 0 (lit< tt)) s.x_small s.not_dense) (omega (arith, c.all.ensures l known)) (omega (arith, c.all.ensures l known))
 
 second_near : (c : After-stepped-y) (l : ℕ) → l < 8 → (slice_index c.stepped-x.result l ≤ 8388608 + 0 + 1769472) × (8388608 ≤ slice_index c.stepped-x.result l + 0 + 1769472) → (slice_index c.stepped-y.result l ≤ 8388608 + 1769472 + 1769472) × (8388608 ≤ slice_index c.stepped-y.result l + 1769472 + 1769472)
 second_near c l known before =
     let s = c.requires.sound l known in
     near (slice_index c.stepped-y.result l) (slice_index c.stepped-x.result l) 1769472 (part c.args.c.now 1 *ℤ (pos (slice_index c.args.self.now.y l) -ℤ pos 8388608)) (second c l known)
-    (share (part c.args.c.now 1) (slice_index c.args.self.now.y l) (slice_index c.args.self.now.rho l) (c.requires.units 1 (lit< tt)) s.y_small s.not_dense) (omega (arith, before.0)) (omega (arith, before.1))
+    (share (part c.args.c.now 1) (slice_index c.args.self.now.y l) (slice_index c.args.self.now.cells.rho l) (c.requires.units 1 (lit< tt)) s.y_small s.not_dense) (omega (arith, before.0)) (omega (arith, before.1))
 
 pub stepped-y-requires-clause-not_low : goal.stepped-y-requires-clause-not_low
 stepped-y-requires-clause-not_low c l known = omega (arith, (first_near (goal.at.stepped-y-requires-clause-not_low c).After-stepped-x l known).1)

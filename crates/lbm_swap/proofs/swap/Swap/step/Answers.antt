@@ -17,8 +17,8 @@ invariant_of-self-2 g c =
       small = λ free. small_stepped d.case (state_in d.case swap_layout d.region.slots) swap_layout new.slots None kept.valid (kept.small free) c.in_default-answer.ensures.step refl;
     }
 
-pub returns : goal.returns
-returns g c =
+pub returns-clause-step : goal.returns-clause-step
+returns-clause-step g c =
     let d = c.self.inside in let new = c.advance-answer.new.region.slots in let still = λ (time : ℕ). swap_layout in
     let l : Lattice = record { case = d.case; time = d.time; spent = d.spent; slots = d.region.slots } in
     let made : IsStep d.case (state_in d.case swap_layout d.region.slots) swap_layout new None = c.in_default-answer.ensures.step in

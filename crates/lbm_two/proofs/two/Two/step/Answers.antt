@@ -23,8 +23,8 @@ invariant_of-self-2 g c =
       laid_again d.case two_layout d.current c.advance.new.now c.advance.ensures.now kept.laid,
     )
 
-pub returns : goal.returns
-returns g c =
+pub returns-clause-step : goal.returns-clause-step
+returns-clause-step g c =
     let d = c.self.inside in let new = c.advance.new.next in let still = λ (time : ℕ). two_layout in
     let l : Lattice = record { case = d.case; time = d.time; spent = d.spent; slots = d.current.slots } in
     let s = state_in d.case two_layout d.current.slots in

@@ -1,0 +1,19 @@
+pub mod Reading
+pub mod SameMoments
+pub mod SmallMoments
+pub mod Stepped
+pub mod Populations
+pub mod Runs
+pub mod Asked
+pub mod Deciding
+pub mod LeftFiles
+pub mod PrintedFits
+pub mod Requests
+pub mod GenLength
+pub mod BadCuts
+pub mod Beginnings
+pub mod SavedFiles
+pub mod Sure
+pub mod Gathered
+pub mod Resumed
+mod Drift

@@ -1,0 +1,155 @@
+-- What a call may answer, and what it leaves outside. First it decides, from the words and the store; then it tells the sink.
+use Rattle.std.specs.Prelude.{◌≡◌, ◌⊎◌, ◌-◌, List, ℕ, Option, Some, None, Result, Ok, Err, IsOk, IsOkAnd, MatchResult, pos, ◌+ℤ◌, ◌*ℤ◌}
+use Rattle.std.specs.Option.{ForSome}
+use Rattle.lbm_store.specs.Outside.{Files, StoreState, SinkState, Rose, GotFront, content, followed}
+use Rattle.lbm_model.specs.State.{mass}
+use Rattle.lbm_model.specs.Case.{FlowCase, all_gain}
+use Rattle.lbm_model.specs.Flow.{first}
+use Rattle.lbm_case.specs.CaseOf.{case_of}
+use Rattle.lbm_words.specs.Request.{Request, run, check, demo}
+use Rattle.lbm_words.specs.Words.{request_of}
+use Rattle.lbm_answer.specs.declared.answer.File.{File}
+use Rattle.lbm_answer.specs.declared.answer.File.TheVariants.{CaseFile, Checkpoint, Out, Save}
+use Rattle.lbm_answer.specs.declared.answer.End.{End}
+use Rattle.lbm_answer.specs.declared.answer.End.TheVariants.{Done, Usage, Case, TooLong, Cut, Checkpoint as BadCheckpoint, Past, Range, StoreFault, SinkFault, Memory}
+use Rattle.lbm_answer.specs.declared.report.Report.{Report}
+use Rattle.lbm_answer.specs.Lines.{line_of, report_line}
+use Rattle.lbm_answer.specs.Faults.{NoFault, FaultOf}
+use Rattle.lbm_model.specs.Refusals.{◌>>=◌}
+use Rattle.lbm_answer.specs.Outcome.{Job, Beginning, Finished, OfFiles, CutAt, CutShort, admitted, begun, case_bytes, demo_job, job_outcome, outcome, run_job, written}
+use Rattle.lbm_answer.specs.Reports.{mass_of, momentum_of}
+use Rattle.lbm_answer.specs.Drift.{IsWithinDrift}
+
+-- a report, or the answer in its place
+abbrev pub Decision : Type 0
+Decision = Result Report End
+
+-- ---- what a call is asked, as far as its answer goes: its outcome over files, its case where nothing that comes before the
+-- checkpoint is refused, the laws that its report keeps, and the names of its files
+pub record Asked : Type 1 where
+  pub outcome : Files → Result Finished End
+  pub admitted : Files → Result FlowCase End
+  pub keeps : Files → Report → Type 0
+  pub name : File → Option (List ℕ)
+
+-- a refusal: exactly that of the outcome, and in the store no file and no count has changed
+abbrev pub Refuses : Asked → StoreState → StoreState → End → Type 0
+Refuses asked before after refused = (after ≡ before) × ForSome before.files (λ files. asked.outcome files ≡ Err refused)
+
+-- the writing of the files stopped at file number k
+abbrev pub StopsAt : ℕ → Asked → StoreState → StoreState → Type 0
+StopsAt k asked before after = OfFiles before after (λ files now. IsOkAnd (asked.outcome files) (λ left. CutAt k left.files files now))
+
+-- What may be decided, and what has become of the files.
+abbrev pub DecidesFor : Asked → StoreState → StoreState → Decision → Type 0
+-- nothing has stopped it, and no fault was counted
+DecidesFor asked before after (Ok report) =
+    NoFault before after × OfFiles before after (λ files now. IsOkAnd (asked.outcome files) (λ left. (left.report ≡ report) × (now ≡ written left.files files)) × asked.keeps files report)
+-- want of memory: at any step
+DecidesFor asked before after (Err Memory) =
+    OfFiles before after (λ files now. MatchResult (asked.outcome files) (λ left. CutShort left.files files now) (λ refused. now ≡ files))
+-- a fault of the store, the only one that it has counted in this call, where nothing was refused before
+DecidesFor asked before after (Err (StoreFault CaseFile)) = FaultOf asked.name CaseFile before after × (after.files ≡ before.files)
+DecidesFor asked before after (Err (StoreFault Checkpoint)) =
+    FaultOf asked.name Checkpoint before after × (after.files ≡ before.files) × ForSome before.files (λ files. IsOk (asked.admitted files))
+DecidesFor asked before after (Err (StoreFault Out)) = FaultOf asked.name Out before after × StopsAt 0 asked before after
+DecidesFor asked before after (Err (StoreFault Save)) = FaultOf asked.name Save before after × StopsAt 1 asked before after
+DecidesFor asked before after (Err (Case fault)) = Refuses asked before after (Case fault)
+DecidesFor asked before after (Err (TooLong file)) = Refuses asked before after (TooLong file)
+DecidesFor asked before after (Err (Cut k)) = Refuses asked before after (Cut k)
+DecidesFor asked before after (Err (BadCheckpoint fault)) = Refuses asked before after (BadCheckpoint fault)
+DecidesFor asked before after (Err (Past at to)) = Refuses asked before after (Past at to)
+DecidesFor asked before after (Err (Range step cell)) = Refuses asked before after (Range step cell)
+-- never, where the words ask for something
+DecidesFor asked before after (Err Usage) = ⊥
+DecidesFor asked before after (Err Done) = ⊥
+DecidesFor asked before after (Err SinkFault) = ⊥
+
+-- ---- a run
+
+-- the case of a run and where it begins
+abbrev pub beginning_of : Job → Files → Result (FlowCase × Beginning) End
+beginning_of job files = do
+  case ← admitted job
+  begin ← begun job files case
+  Ok (case, begin)
+
+-- The mass that a run reports is that of the state with which it begins, and what the walls give in each step. Its momentum is
+-- within the drift.
+abbrev pub KeepsLaws : Job → Files → Report → Type 0
+KeepsLaws job files report = IsOkAnd (beginning_of job files) (λ b.
+    (mass_of report ≡ mass b.1.state +ℤ (pos (job.steps - b.1.time) *ℤ all_gain b.0))
+    × IsWithinDrift b.0 b.1.state (job.steps - b.1.time) (momentum_of report))
+
+abbrev pub job_name : Job → File → Option (List ℕ)
+job_name job CaseFile = None
+job_name job Checkpoint = job.resume
+job_name job Out = Some job.out
+job_name job Save = job.save
+
+-- what a run is asked
+abbrev pub asked_of_job : Job → Asked
+asked_of_job job = record { outcome = job_outcome job; admitted = λ files. admitted job; keeps = KeepsLaws job; name = job_name job }
+
+-- ---- a request
+
+-- the run that a request asks for, over the bytes of its case; a check asks for none
+abbrev pub job_of : Request → Files → Result Job End
+job_of (run r) files = do
+  bytes ← case_bytes r.case files
+  Ok (run_job r bytes)
+job_of (check c) files = Err Usage
+job_of (demo d) files = Ok (demo_job d)
+
+abbrev pub admitted_of : Request → Files → Result FlowCase End
+admitted_of request files = do
+  job ← job_of request files
+  admitted job
+
+-- the mass that a check reports is that of the first state
+abbrev pub keeps_of : Request → Files → Report → Type 0
+keeps_of (check c) files report = IsOkAnd (case_of (content files c.case)) (λ case. mass_of report ≡ mass (first case))
+keeps_of request files report = IsOkAnd (job_of request files) (λ job. KeepsLaws job files report)
+
+abbrev pub name_of : Request → File → Option (List ℕ)
+name_of (run r) CaseFile = Some r.case
+name_of (run r) Checkpoint = r.resume
+name_of (run r) Out = Some r.out
+name_of (run r) Save = r.save
+name_of (check c) CaseFile = Some c.case
+name_of (check c) file = None
+name_of (demo d) Out = Some d.out
+name_of (demo d) Save = d.save
+name_of (demo d) file = None
+
+-- what words ask
+abbrev pub asked_of : Request → Asked
+asked_of request = record { outcome = outcome request; admitted = admitted_of request; keeps = keeps_of request; name = name_of request }
+
+-- Words that ask for nothing are refused, unless memory ran out, and the store is as before.
+abbrev pub Decides : Option Request → StoreState → StoreState → Decision → Type 0
+Decides (Some request) before after decision = DecidesFor (asked_of request) before after decision
+Decides None before after decision = (after ≡ before) × ((decision ≡ Err Usage) ⊎ (decision ≡ Err Memory))
+
+-- The sink gets a line. `whole` is the answer where it got all of it and nothing failed, `cut` where the sink failed and has counted that.
+-- Where that wants memory, the line of want of memory is tried once behind what was written.
+abbrev pub TellsLine : SinkState → SinkState → List ℕ → End → End → End → Type 0
+TellsLine before after line whole cut end =
+    ((end ≡ whole) × (after.written ≡ followed before.written line) × (after.faults ≡ before.faults))
+    ⊎ ((end ≡ cut) × Rose before.faults after.faults × GotFront before.written after.written line)
+    ⊎ ((end ≡ Memory) × (between : Option (List ℕ)) × GotFront before.written between line × GotFront between after.written (line_of Memory))
+
+-- The sink gets the line of want of memory, or a front of it.
+abbrev pub TellsMemory : SinkState → SinkState → End → Type 0
+TellsMemory before after end = (end ≡ Memory) × GotFront before.written after.written (line_of Memory)
+
+abbrev pub Tells : SinkState → SinkState → Decision → End → Type 0
+Tells before after (Ok report) end = TellsLine before after (report_line report) Done SinkFault end
+Tells before after (Err Memory) end = TellsMemory before after end
+Tells before after (Err answer) end = TellsLine before after (line_of answer) answer answer end
+
+-- A call over these words answers so.
+pub record Answers (words : List (List ℕ)) (store store_after : StoreState) (sink sink_after : SinkState) (end : End) : Type 0 where
+  pub decision : Decision
+  pub decided : Decides (request_of words) store store_after decision
+  pub told : Tells sink sink_after decision end

@@ -1,0 +1,12 @@
+pub mod Gen
+pub mod Causes
+pub mod Reports
+pub mod Outcome
+pub mod Lines
+pub mod Faults
+pub mod Answer
+pub mod Complete
+pub mod Files
+pub mod Jobs
+pub mod Laws
+pub mod Drift

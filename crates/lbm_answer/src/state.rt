@@ -1,0 +1,20 @@
+// The state that a pattern stands for.
+ghost use Rattle.std.specs.Prelude.{◌≡◌, IsNone, IfOk};
+
+use lbm_model::{Pattern, State};
+use lbm_space::Memory;
+use std::alloc::Global;
+
+/// The state that a pattern stands for, which is not spent.
+pub fn state_of<P: Pattern>(alloc: Global, pattern: &P) -> Result<State, Memory>
+    requires { IsNone (P.standing pattern.now).spent }
+    ensures { IfOk result (λ state. state ≡ (P.standing pattern.now).state) }
+{
+    let cells = pattern.case().space().cells();
+    let q = pattern.case().set().directions();
+    let mut pops = Vec::with_capacity(alloc, cells as usize * q as usize)?;
+    for k in 0..cells * q {
+        pops.push(pattern.get(k / q, k % q) as i32)?;
+    }
+    Ok(State::new(q, pops))
+}

@@ -1,5 +1,0 @@
-use Rattle.std.proofs.Common.{◌≡◌, take}
-use Rattle.lbm_flow.proofs.state.state_of.Given as goal
-
-abbrev pub invariant-loop-k : goal.invariant-loop-k
-invariant-loop-k g l = l.pops.items ≡ take l.k (g.P.Pattern.standing l.pattern).state.numbers

@@ -1,0 +1,4 @@
+pub mod Strips
+pub mod Near
+pub mod NearLaws
+pub mod Sweeps
