@@ -1,50 +1,129 @@
 #!/usr/bin/env python3
-"""Paints the speed of each cell of a file that lbm has written, as a PNG picture.
+"""Paints a run of lbm as a PNG picture: by default the speed of each cell. It wants Python alone, 3.11 or later.
 
-Usage: picture.py FILE.vtk FILE.png [LAYER]
+    picture.py CASE FILE.vtk FILE.png [--of speed|x|y|z|density] [--layer Z] [--width PIXELS]
 
-It reads the ASCII and the binary form with VTK's own reader (Debian: python3-vtk9, python3-matplotlib). Of a box in space it
-paints one layer, by default the middle one.
+The first row of the map is at the top, so the picture lies as the case file is written; solid cells are grey. Of a box in space one
+layer is painted, by default the middle one. Velocities have half of the force's share added, and are in cells a step. Below the
+picture stands the scale, with its least and its greatest value.
 """
-import sys
+import argparse
+import struct
+import zlib
 
-import matplotlib
+import flow
 
-matplotlib.use("Agg")
-import matplotlib.pyplot as plt
-import numpy
-from vtkmodules.util.numpy_support import vtk_to_numpy
-from vtkmodules.vtkIOLegacy import vtkStructuredPointsReader
+# the colours of a scale at even distances, from the least value to the greatest: one for sizes, one for values of both signs
+SIZES = ("440154", "482878", "3e4989", "31688e", "26828e", "1f9e89", "35b779", "6ece58", "b5de2b", "fde725")
+SIGNED = ("053061", "2166ac", "4393c3", "92c5de", "d1e5f0", "f7f7f7", "fddbc7", "f4a582", "d6604d", "b2182b", "67001f")
+SHADES = 240
+GREY, WHITE, BLACK = SHADES, SHADES + 1, SHADES + 2
 
-
-def read(name):
-    """The sides, the densities and the momenta of a file."""
-    reader = vtkStructuredPointsReader()
-    reader.SetFileName(name)
-    reader.ReadAllScalarsOn()
-    reader.ReadAllVectorsOn()
-    reader.Update()
-    points = reader.GetOutput()
-    nx, ny, nz = points.GetDimensions()
-    data = points.GetPointData()
-    density = vtk_to_numpy(data.GetArray("density")).reshape(nz, ny, nx)
-    momentum = vtk_to_numpy(data.GetArray("momentum")).reshape(nz, ny, nx, 3)
-    return density, momentum
+# the characters of a number, five rows of three points each
+GLYPHS = {
+    "0": "###,#.#,#.#,#.#,###", "1": ".#.,##.,.#.,.#.,###", "2": "###,..#,###,#..,###", "3": "###,..#,.##,..#,###",
+    "4": "#.#,#.#,###,..#,..#", "5": "###,#..,###,..#,###", "6": "###,#..,###,#.#,###", "7": "###,..#,.#.,.#.,.#.",
+    "8": "###,#.#,###,#.#,###", "9": "###,#.#,###,..#,###", "-": "...,...,###,...,...", ".": "...,...,...,...,.#.",
+    "e": "...,###,###,#..,###", "+": "...,.#.,###,.#.,...",
+}
 
 
-def main(words):
-    if len(words) not in (3, 4):
-        sys.exit(__doc__)
-    density, momentum = read(words[1])
-    layer = int(words[3]) if len(words) == 4 else density.shape[0] // 2
-    rho = density[layer]
-    speed = numpy.linalg.norm(momentum[layer], axis=2) / numpy.maximum(rho, 1)
-    painted = numpy.ma.masked_where(rho == 0, speed)
-    figure, axes = plt.subplots(figsize=(10, 10 * rho.shape[0] / rho.shape[1] + 1.5))
-    image = axes.imshow(painted, origin="lower", cmap="viridis")
-    axes.set_facecolor("grey")
-    figure.colorbar(image, orientation="horizontal", label="speed, cells a step")
-    figure.savefig(words[2], dpi=100, bbox_inches="tight")
+def palette(colours):
+    """The shades of a scale, and grey, white and black."""
+    points = [tuple(bytes.fromhex(colour)) for colour in colours]
+    shades = []
+    for k in range(SHADES):
+        place = k * (len(points) - 1) / (SHADES - 1)
+        low = min(int(place), len(points) - 2)
+        shades.append([round(a + (place - low) * (b - a)) for a, b in zip(points[low], points[low + 1])])
+    return bytes(part for shade in shades + [[150, 150, 150], [255, 255, 255], [0, 0, 0]] for part in shade)
 
 
-main(sys.argv)
+def write_png(name, rows, colours):
+    """A picture of 256 colours at most: rows of their numbers."""
+
+    def chunk(kind, data):
+        return struct.pack(">I", len(data)) + kind + data + struct.pack(">I", zlib.crc32(kind + data))
+
+    head = struct.pack(">IIBBBBB", len(rows[0]), len(rows), 8, 3, 0, 0, 0)
+    data = zlib.compress(b"".join(b"\0" + bytes(row) for row in rows), 9)
+    with open(name, "wb") as file:
+        file.write(b"\x89PNG\r\n\x1a\n" + chunk(b"IHDR", head) + chunk(b"PLTE", palette(colours)) + chunk(b"IDAT", data) + chunk(b"IEND", b""))
+
+
+def write_number(rows, value, x, y, size, ends=False):
+    """Writes a number into the rows from x on, or so that it ends before x."""
+    text = f"{value:.3g}"
+    left = x - 4 * size * len(text) if ends else x
+    for mark in text:
+        for row, points in enumerate(GLYPHS[mark].split(",")):
+            for column, point in enumerate(points):
+                if point == "#":
+                    for line in range(y + row * size, y + (row + 1) * size):
+                        rows[line][left + column * size : left + (column + 1) * size] = [BLACK] * size
+        left += 4 * size
+
+
+def values_of(case, fields, what):
+    """What is painted of each cell: a number, or None where it is solid."""
+    if what == "density":
+        return [None if rho == 0 else rho / flow.UNIT for rho in fields.density]
+    speeds = flow.velocities(case, fields)
+    if what == "speed":
+        return [None if v is None else sum(part * part for part in v) ** 0.5 for v in speeds]
+    return [None if v is None else v["xyz".index(what)] for v in speeds]
+
+
+def scale_of(values, what):
+    """The least and the greatest value of the scale."""
+    known = [value for value in values if value is not None] or [0]
+    low, high = min(known), max(known)
+    if what == "speed":
+        low = 0
+    elif what in "xyz":
+        high = max(-low, high)
+        low = -high
+    return low, high if high > low else low + 1
+
+
+def painted(values, sides, low, high, width):
+    """The rows of the picture, cells as squares, with the scale below."""
+    nx, ny = sides
+    size = max(1, round(width / nx))
+    rows = []
+    for y in range(ny):
+        row = []
+        for value in values[y * nx : (y + 1) * nx]:
+            shade = GREY if value is None else round((value - low) / (high - low) * (SHADES - 1))
+            row += [shade] * size
+        rows += [row] * size
+    width = nx * size
+    bar = [round(x / max(1, width - 1) * (SHADES - 1)) for x in range(width)]
+    letters = max(1, min(3, width // 120))
+    blank = [[WHITE] * width for _ in range(7 * letters)]
+    write_number(blank, low, letters, letters, letters)
+    write_number(blank, high, width, letters, letters, ends=True)
+    return rows + [[WHITE] * width] * 8 + [bar] * 12 + blank
+
+
+def main():
+    reader = argparse.ArgumentParser(description=__doc__, formatter_class=argparse.RawDescriptionHelpFormatter)
+    reader.add_argument("case")
+    reader.add_argument("file")
+    reader.add_argument("picture")
+    reader.add_argument("--of", default="speed", choices=["speed", "x", "y", "z", "density"])
+    reader.add_argument("--layer", type=int)
+    reader.add_argument("--width", type=int, default=800)
+    words = reader.parse_args()
+    case, fields = flow.Case.read(words.case), flow.Fields(words.file)
+    nx, ny, nz = fields.sides
+    layer = nz // 2 if words.layer is None else words.layer
+    values = values_of(case, fields, words.of)[layer * nx * ny : (layer + 1) * nx * ny]
+    low, high = scale_of(values, words.of)
+    colours = SIGNED if words.of in "xyz" else SIZES
+    write_png(words.picture, painted(values, (nx, ny), low, high, words.width), colours)
+    units = "units of density" if words.of == "density" else "cells a step"
+    print(f"{words.of} at step {fields.step}, {low:.4g} to {high:.4g} {units}")
+
+
+main()

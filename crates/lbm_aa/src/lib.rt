@@ -8,4 +8,4 @@
 
 mod aa;
 
-pub use aa::Aa;
+pub use aa::{Aa, AaSteps};

@@ -1,102 +1,142 @@
 -- What a run and a request come to, a step at a time.
-use Rattle.std.proofs.Common.{◌≡◌, ℕ, List, Bool, true, false, Some, None, Ok, Err, refl}
-use Rattle.std.specs.Prelude.{pos, ◌+ℤ◌, ◌*ℤ◌, ◌-◌}
+use Rattle.std.proofs.Common.{◌≡◌, ◌∙◌, ℕ, ◌<◌, ◌≤◌, ◌++◌, List, length, Ok, Err, refl, sym, ap, subst}
+use Rattle.std.specs.Prelude.{IsOkAnd, pos, ◌+ℤ◌, ◌*ℤ◌, ◌-◌}
+use Rattle.std.proofs.lemmas.Bool.{le-leb, lt-leb}
 use Rattle.lbm_store.specs.Outside.{Files, content}
 use Rattle.lbm_model.specs.State.{mass}
 use Rattle.lbm_model.specs.Case.{FlowCase, all_gain}
 use Rattle.lbm_case.specs.declared.fault.CaseFault.{CaseFault}
 use Rattle.lbm_case.specs.CaseOf.{case_of}
-use Rattle.lbm_words.specs.Request.{Run, Check, Demo, run, check, demo}
+use Rattle.lbm_voxel.specs.declared.fault.VoxelFault.{VoxelFault}
+use Rattle.lbm_voxel.specs.Voxels.{voxels_of}
+use Rattle.lbm_words.specs.Request.{Run, Check, Demo, Voxels, Request, run, check, demo, voxels}
+use Rattle.lbm_answer.specs.declared.answer.File.{File}
+use Rattle.lbm_answer.specs.declared.answer.File.TheVariants.{CaseFile, Voxel}
 use Rattle.lbm_answer.specs.declared.answer.End.{End}
-use Rattle.lbm_answer.specs.declared.answer.End.TheVariants.{Case, Cut}
+use Rattle.lbm_answer.specs.declared.answer.End.TheVariants.{Case, TooLong, Voxel as BadVoxel}
 use Rattle.lbm_answer.specs.declared.report.Report.{Report}
 use Rattle.lbm_answer.specs.Reports.{mass_of, momentum_of}
 use Rattle.lbm_answer.specs.Drift.{IsWithinDrift}
-use Rattle.lbm_model.specs.Refusals.{◌>>=◌, demand}
-use Rattle.lbm_answer.specs.Outcome.{Job, Beginning, admitted, bad_cut, begun, case_bytes, checked, concluded, demo_job, job_outcome, outcome, run_from, run_job}
-use Rattle.lbm_answer.specs.Answer.{KeepsLaws, admitted_of, keeps_of}
+use Rattle.lbm_answer.specs.Gen.{gen}
+use Rattle.lbm_answer.specs.Outcome.{Job, Beginning, admitted, begun, bytes_within, case_limit, voxel_limit, case_read, voxels_read, checked, concluded, demo_job, job_of, job_outcome, outcome, run_from, run_job}
+use Rattle.lbm_answer.specs.Answer.{KeepsLaws, keeps_of}
 
 -- ---- a run
 
-module _ (job : Job) where
-  -- a case that is refused
-  pub admitted-fault : (fault : CaseFault) → case_of job.bytes ≡ Err fault → admitted job ≡ Err (Case fault)
-  unfolding admitted
-  admitted-fault fault is = rw (is) refl
-
-  module _ (case : FlowCase) (is : case_of job.bytes ≡ Ok case) where
-    -- a cutting that is refused
-    pub admitted-cut : (k : ℕ) → bad_cut case.torus job.cut ≡ Some k → admitted job ≡ Err (Cut k)
-    unfolding admitted
-    admitted-cut k bad = rw (is, bad) refl
-
-    pub admitted-ok : bad_cut case.torus job.cut ≡ None → admitted job ≡ Ok case
-    unfolding admitted
-    admitted-ok good = rw (is, good) refl
-
+module _ (job : Job) (files : Files) where
   -- a run that is refused before it begins
-  pub job_outcome-refused : (files : Files) (refused : End) → admitted job ≡ Err refused → job_outcome job files ≡ Err refused
+  pub job_outcome-refused : (refused : End) → admitted job ≡ Err refused → job_outcome job files ≡ Err refused
   unfolding job_outcome
-  job_outcome-refused files refused is = rw (is) refl
+  job_outcome-refused refused is = rw (is) refl
 
-  module _ (case : FlowCase) (files : Files) (is : admitted job ≡ Ok case) where
+  module _ (is : admitted job ≡ Ok tt) where
     -- one that does not begin
-    pub job_outcome-unbegun : (refused : End) → begun job files case ≡ Err refused → job_outcome job files ≡ Err refused
+    pub job_outcome-unbegun : (refused : End) → begun job files ≡ Err refused → job_outcome job files ≡ Err refused
     unfolding job_outcome
     job_outcome-unbegun refused begins = rw (is, begins) refl
 
     -- one that begins
-    pub job_outcome-begun : (begin : Beginning) → begun job files case ≡ Ok begin → job_outcome job files ≡ concluded job case (run_from case job.steps begin)
+    pub job_outcome-begun : (begin : Beginning) → begun job files ≡ Ok begin → job_outcome job files ≡ concluded job (run_from job.case job.steps begin)
     unfolding job_outcome
     job_outcome-begun begin begins = rw (is, begins) refl
 
-    -- the laws that its report keeps
-    pub keeps-begun : (begin : Beginning) (report : Report) → begun job files case ≡ Ok begin
-        → mass_of report ≡ mass begin.state +ℤ (pos (job.steps - begin.time) *ℤ all_gain case)
-        → IsWithinDrift case begin.state (job.steps - begin.time) (momentum_of report) → KeepsLaws job files report
-    keeps-begun begin report begins law drift = rw (is, begins) (law, drift)
+  -- the laws that its report keeps
+  pub keeps-begun : (begin : Beginning) (report : Report) → begun job files ≡ Ok begin
+      → mass_of report ≡ mass begin.state +ℤ (pos (job.steps - begin.time) *ℤ all_gain job.case)
+      → IsWithinDrift job.case begin.state (job.steps - begin.time) (momentum_of report) → KeepsLaws job files report
+  keeps-begun begin report begins law drift = rw begins (law, drift)
 
--- ---- the bytes of a case file
+-- ---- the files that are read first
 
-read_within : (long : Bool) (refused : End) (bytes found : List ℕ) → (demand long refused >>= λ short. Ok found) ≡ Ok bytes → found ≡ bytes
-read_within true refused bytes found h = cc
-read_within false refused bytes found h = absurd cc
+module _ (kind : File) (limit : ℕ) (name : List ℕ) (files : Files) where
+  pub bytes_within-long : limit < length (content files name) → bytes_within kind limit name files ≡ Err (TooLong kind)
+  bytes_within-long long = rw (lt-leb _ _ long) refl
 
-pub case_bytes-content : (name bytes : List ℕ) (files : Files) → case_bytes name files ≡ Ok bytes → content files name ≡ bytes
-case_bytes-content name bytes files h = read_within _ _ _ _ h
+  pub bytes_within-whole : (bytes : List ℕ) → length bytes ≤ limit → bytes ≡ content files name → bytes_within kind limit name files ≡ Ok bytes
+  bytes_within-whole bytes short whole = rw (sym whole, le-leb _ _ short) refl
+
+module _ (name : List ℕ) (files : Files) where
+  pub case_read-unread : (refused : End) → bytes_within CaseFile case_limit name files ≡ Err refused → case_read name files ≡ Err refused
+  unfolding case_read
+  case_read-unread refused is = rw is refl
+
+  module _ (bytes : List ℕ) (read : bytes_within CaseFile case_limit name files ≡ Ok bytes) where
+    pub case_read-refused : (fault : CaseFault) → case_of bytes ≡ Err fault → case_read name files ≡ Err (Case fault)
+    unfolding case_read
+    case_read-refused fault is = rw (read, is) refl
+
+    pub case_read-case : (case : FlowCase) → case_of bytes ≡ Ok case → case_read name files ≡ Ok (bytes, case)
+    unfolding case_read
+    case_read-case case is = rw (read, is) refl
+
+  module _ (case : FlowCase) where
+    pub voxels_read-unread : (refused : End) → bytes_within Voxel voxel_limit name files ≡ Err refused → voxels_read name case files ≡ Err refused
+    unfolding voxels_read
+    voxels_read-unread refused is = rw is refl
+
+    module _ (bytes : List ℕ) (read : bytes_within Voxel voxel_limit name files ≡ Ok bytes) where
+      pub voxels_read-refused : (fault : VoxelFault) → voxels_of bytes case ≡ Err fault → voxels_read name case files ≡ Err (BadVoxel fault)
+      unfolding voxels_read
+      voxels_read-refused fault is = rw (read, is) refl
+
+      pub voxels_read-case : (shaped : FlowCase) → voxels_of bytes case ≡ Ok shaped → voxels_read name case files ≡ Ok (bytes, shaped)
+      unfolding voxels_read
+      voxels_read-case shaped is = rw (read, is) refl
 
 -- ---- a request
 
--- a request whose case file is refused
+-- a request that is refused before its run is known
 module _ (files : Files) (refused : End) where
-  pub run-unread : (r : Run) → case_bytes r.case files ≡ Err refused → outcome (run r) files ≡ Err refused
+  pub run-unread : (r : Run) → case_read r.case files ≡ Err refused → outcome (run r) files ≡ Err refused
+  unfolding outcome job_of
+  run-unread r is = rw is refl
+
+  pub check-unread : (c : Check) → case_read c.case files ≡ Err refused → outcome (check c) files ≡ Err refused
   unfolding outcome
-  run-unread r is = rw (is) refl
+  check-unread c is = rw is refl
 
-  pub check-unread : (c : Check) → case_bytes c.case files ≡ Err refused → outcome (check c) files ≡ Err refused
+  pub voxels-uncased : (v : Voxels) → case_read v.run.case files ≡ Err refused → outcome (voxels v) files ≡ Err refused
+  unfolding outcome job_of
+  voxels-uncased v is = rw is refl
+
+  pub voxels-unread : (v : Voxels) (bytes : List ℕ) (case : FlowCase) → case_read v.run.case files ≡ Ok (bytes, case)
+      → voxels_read v.file case files ≡ Err refused → outcome (voxels v) files ≡ Err refused
+  unfolding outcome job_of
+  voxels-unread v bytes case read is = rw (read, is) refl
+
+pub demo-refused : (files : Files) (d : Demo) (fault : CaseFault) → case_of (gen d.n) ≡ Err fault → outcome (demo d) files ≡ Err (Case fault)
+unfolding outcome job_of
+demo-refused files d fault is = rw is refl
+
+-- the run of a request
+module _ (files : Files) where
+  pub run-job : (r : Run) (bytes : List ℕ) (case : FlowCase) → case_read r.case files ≡ Ok (bytes, case) → job_of (run r) files ≡ Ok (run_job r case bytes)
+  unfolding job_of
+  run-job r bytes case is = rw is refl
+
+  pub demo-job : (d : Demo) (case : FlowCase) → case_of (gen d.n) ≡ Ok case → job_of (demo d) files ≡ Ok (demo_job d case)
+  unfolding job_of
+  demo-job d case is = rw is refl
+
+  pub voxels-job : (v : Voxels) (bytes voxels_bytes : List ℕ) (case shaped : FlowCase) → case_read v.run.case files ≡ Ok (bytes, case)
+      → voxels_read v.file case files ≡ Ok (voxels_bytes, shaped) → job_of (voxels v) files ≡ Ok (run_job v.run shaped (bytes ++ voxels_bytes))
+  unfolding job_of
+  voxels-job v bytes voxels_bytes case shaped read is = rw (read, is) refl
+
+  pub outcome-job : (request : Request) (job : Job) → job_of request files ≡ Ok job → outcome request files ≡ job_outcome job files
+  unfolding outcome job_of
+  outcome-job (run r) job is = rw is refl
+  outcome-job (check c) job is = absurd cc
+  outcome-job (demo d) job is = rw is refl
+  outcome-job (voxels v) job is = rw is refl
+
+  pub keeps-job : (request : Request) (job : Job) (report : Report) → job_of request files ≡ Ok job → KeepsLaws job files report → keeps_of request files report
+  unfolding job_of
+  keeps-job (run r) job report is keeps = rw is keeps
+  keeps-job (check c) job report is keeps = absurd cc
+  keeps-job (demo d) job report is keeps = rw is keeps
+  keeps-job (voxels v) job report is keeps = rw is keeps
+
+  pub check-read : (c : Check) (bytes : List ℕ) (case : FlowCase) → case_read c.case files ≡ Ok (bytes, case) → outcome (check c) files ≡ Ok (checked case)
   unfolding outcome
-  check-unread c is = rw (is) refl
-
--- a request whose case file is read
-module _ (files : Files) (bytes : List ℕ) where
-  pub run-read : (r : Run) → case_bytes r.case files ≡ Ok bytes → outcome (run r) files ≡ job_outcome (run_job r bytes) files
-  unfolding outcome
-  run-read r is = rw (is) refl
-
-  pub run-admitted : (r : Run) → case_bytes r.case files ≡ Ok bytes → admitted_of (run r) files ≡ admitted (run_job r bytes)
-  run-admitted r is = rw (is) refl
-
-  pub run-keeps : (r : Run) (report : Report) → case_bytes r.case files ≡ Ok bytes → KeepsLaws (run_job r bytes) files report → keeps_of (run r) files report
-  run-keeps r report is keeps = rw (is) keeps
-
-  pub check-fault : (c : Check) (fault : CaseFault) → case_bytes c.case files ≡ Ok bytes → case_of bytes ≡ Err fault → outcome (check c) files ≡ Err (Case fault)
-  unfolding outcome
-  check-fault c fault is read = rw (is, read) refl
-
-  pub check-read : (c : Check) (case : FlowCase) → case_bytes c.case files ≡ Ok bytes → case_of bytes ≡ Ok case → outcome (check c) files ≡ Ok (checked case)
-  unfolding outcome
-  check-read c case is read = rw (is, read) refl
-
-pub demo-outcome : (d : Demo) (files : Files) → outcome (demo d) files ≡ job_outcome (demo_job d) files
-unfolding outcome
-demo-outcome d files = refl
+  check-read c bytes case is = rw is refl

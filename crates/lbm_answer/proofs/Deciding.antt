@@ -4,27 +4,22 @@ use Rattle.std.specs.Prelude.{IsNone, IsOkAnd, MatchResult, pos, ◌+ℤ◌, ◌
 use Rattle.std.specs.Option.{ForSome}
 use Rattle.lbm_store.specs.Outside.{Files, StoreState}
 use Rattle.lbm_model.specs.State.{mass}
-use Rattle.lbm_model.specs.Case.{FlowCase, IsCase, all_gain}
+use Rattle.lbm_model.specs.Case.{IsCase, all_gain}
 use Rattle.lbm_model.specs.Laws.{IsFlow}
 use Rattle.lbm_model.proofs.Mass.{mass-run}
-use Rattle.lbm_case.specs.declared.fault.CaseEnd.{CaseEnd}
-use Rattle.lbm_case.specs.declared.fault.CaseEnd.TheVariants as case_ends
-use Rattle.lbm_case.specs.CaseOf.{case_of}
-use Rattle.lbm_case.specs.Refusals.{Refuses as CaseRefuses}
 use Rattle.lbm_answer.specs.declared.left.Left.{Left}
-use Rattle.lbm_answer.specs.declared.answer.File.TheVariants.{CaseFile, Checkpoint, Out, Save}
+use Rattle.lbm_answer.specs.declared.answer.File.TheVariants.{CaseFile, Voxel, Checkpoint, Out, Save}
 use Rattle.lbm_answer.specs.declared.answer.End.{End}
-use Rattle.lbm_answer.specs.declared.answer.End.TheVariants.{Done, Usage, Case, TooLong, Cut, Checkpoint as BadCheckpoint, Past, Range, StoreFault, SinkFault, Memory}
+use Rattle.lbm_answer.specs.declared.answer.End.TheVariants.{Done, Usage, Case, TooLong, Voxel as BadVoxel, Cut, Checkpoint as BadCheckpoint, Past, Range, StoreFault, SinkFault, Memory}
 use Rattle.lbm_answer.specs.declared.report.Report.{Report}
 use Rattle.lbm_answer.specs.declared.report.Report.TheVariants.{Run}
-use Rattle.lbm_answer.specs.Causes.{case_end}
 use Rattle.lbm_answer.specs.Reports.{mass_of, momentum_of}
 use Rattle.lbm_answer.specs.Drift.{IsWithinDrift}
-use Rattle.lbm_answer.specs.Outcome.{Job, Beginning, Written, OfFiles, CutAt, CutShort, admitted, bad_cut, begun, concluded, job_outcome, run_from, written}
+use Rattle.lbm_answer.specs.Outcome.{Job, Beginning, Written, OfFiles, CutAt, CutShort, admitted, bad_cut, begun, concluded, job_outcome, run_from, uncut, written}
 use Rattle.lbm_answer.specs.Faults.{NamedFault}
 use Rattle.lbm_answer.specs.Jobs.{Begins, CanBegin, Cuts, Finishes, Leaves, NthFault, SavesAll, checkpoint_file, left_files}
 use Rattle.lbm_answer.specs.Answer.{Asked, DecidesFor, KeepsLaws, asked_of_job}
-use Rattle.lbm_answer.proofs.Asked.{admitted-fault, admitted-cut, admitted-ok, job_outcome-refused, job_outcome-unbegun, job_outcome-begun, keeps-begun}
+use Rattle.lbm_answer.proofs.Asked.{job_outcome-refused, job_outcome-unbegun, job_outcome-begun, keeps-begun}
 use Rattle.lbm_answer.proofs.Drift.{within-drift}
 use Rattle.lbm_answer.proofs.LeftFiles.{finished-left}
 
@@ -46,20 +41,16 @@ for-memory asked before after same = λ files told. (
 
 -- ---- a run, step by step
 
--- a case that was not read
-pub for-uncased : (job : Job) (before : StoreState) (end : CaseEnd) → CaseRefuses end (case_of job.bytes) → DecidesFor (asked_of_job job) before before (Err (case_end end))
-for-uncased job before (case_ends.Fault fault) is = (refl, λ files told. job_outcome-refused job files (Case fault) (admitted-fault job fault is))
-for-uncased job before case_ends.Memory is = for-memory (asked_of_job job) before before refl
-
-module _ (job : Job) (case : FlowCase) (read : case_of job.bytes ≡ Ok case) (before : StoreState) where
+module _ (job : Job) (before : StoreState) where
   -- a cutting that was not made
-  pub for-uncut : (end : End) → Cuts case.torus job.cut (Err end) → DecidesFor (asked_of_job job) before before (Err end)
-  for-uncut (Cut k) cuts = (refl, λ files told. job_outcome-refused job files (Cut k) (admitted-cut job case read k cuts))
+  pub for-uncut : (end : End) → Cuts job.case.torus job.cut (Err end) → DecidesFor (asked_of_job job) before before (Err end)
+  for-uncut (Cut k) cuts = (refl, λ files told. job_outcome-refused job files (Cut k) (ap uncut cuts))
   for-uncut Memory cuts = for-memory (asked_of_job job) before before refl
   for-uncut Done cuts = absurd cuts
   for-uncut Usage cuts = absurd cuts
   for-uncut (Case fault) cuts = absurd cuts
   for-uncut (TooLong file) cuts = absurd cuts
+  for-uncut (BadVoxel fault) cuts = absurd cuts
   for-uncut (BadCheckpoint fault) cuts = absurd cuts
   for-uncut (Past at to) cuts = absurd cuts
   for-uncut (Range step cell) cuts = absurd cuts
@@ -70,66 +61,70 @@ no_bad_cut : (bad : Option ℕ) → IsNone bad → bad ≡ None
 no_bad_cut None none = refl
 no_bad_cut (Some k) none = absurd cc
 
-pub admitted-cuts : (job : Job) (case : FlowCase) → case_of job.bytes ≡ Ok case → IsNone (bad_cut case.torus job.cut) → admitted job ≡ Ok case
-admitted-cuts job case read good = admitted-ok job case read (no_bad_cut _ good)
+pub admitted-cuts : (job : Job) → IsNone (bad_cut job.case.torus job.cut) → admitted job ≡ Ok tt
+admitted-cuts job good = ap uncut (no_bad_cut _ good)
 
-module _ (job : Job) (case : FlowCase) (is_admitted : admitted job ≡ Ok case) (before : StoreState) where
+module _ (job : Job) (is_admitted : admitted job ≡ Ok tt) (before : StoreState) where
   -- a run that did not begin
   pub for-unbegun : (after : StoreState) → after.files ≡ before.files → after.write_faults ≡ before.write_faults
-      → (end : End) → Begins job case before after (Err end) → DecidesFor (asked_of_job job) before after (Err end)
+      → (end : End) → Begins job before after (Err end) → DecidesFor (asked_of_job job) before after (Err end)
   for-unbegun after same writes (StoreFault Checkpoint) begins =
       let fault : NamedFault before.read_faults after.read_faults job.resume = rw (begins.1) begins.2 in
       ((fault, writes), same, λ files told. rw is_admitted refl)
-  for-unbegun after same writes (TooLong Checkpoint) begins = (begins.0, λ files told. job_outcome-unbegun job case files is_admitted _ (begins.1 files told))
-  for-unbegun after same writes (BadCheckpoint fault) begins = (begins.0, λ files told. job_outcome-unbegun job case files is_admitted _ (begins.1 files told))
-  for-unbegun after same writes (Past at to) begins = (begins.0, λ files told. job_outcome-unbegun job case files is_admitted _ (begins.1 files told))
+  for-unbegun after same writes (TooLong Checkpoint) begins = (begins.0, λ files told. job_outcome-unbegun job files is_admitted _ (begins.1 files told))
+  for-unbegun after same writes (BadCheckpoint fault) begins = (begins.0, λ files told. job_outcome-unbegun job files is_admitted _ (begins.1 files told))
+  for-unbegun after same writes (Past at to) begins = (begins.0, λ files told. job_outcome-unbegun job files is_admitted _ (begins.1 files told))
   for-unbegun after same writes Memory begins = for-memory (asked_of_job job) before after same
   for-unbegun after same writes (StoreFault CaseFile) begins = absurd begins
+  for-unbegun after same writes (StoreFault Voxel) begins = absurd begins
   for-unbegun after same writes (StoreFault Out) begins = absurd begins
   for-unbegun after same writes (StoreFault Save) begins = absurd begins
   for-unbegun after same writes (TooLong CaseFile) begins = absurd begins
+  for-unbegun after same writes (TooLong Voxel) begins = absurd begins
   for-unbegun after same writes (TooLong Out) begins = absurd begins
   for-unbegun after same writes (TooLong Save) begins = absurd begins
   for-unbegun after same writes Done begins = absurd begins
   for-unbegun after same writes Usage begins = absurd begins
   for-unbegun after same writes (Case fault) begins = absurd begins
+  for-unbegun after same writes (BadVoxel fault) begins = absurd begins
   for-unbegun after same writes (Cut k) begins = absurd begins
   for-unbegun after same writes (Range step cell) begins = absurd begins
   for-unbegun after same writes SinkFault begins = absurd begins
 
-  module _ (begin : Beginning) (begins : ForSome before.files (λ files. begun job files case ≡ Ok begin)) where
-    outcome-run : (files : Files) → before.files ≡ Some files → job_outcome job files ≡ concluded job case (run_from case job.steps begin)
-    outcome-run files told = job_outcome-begun job case files is_admitted begin (begins files told)
+  module _ (begin : Beginning) (begins : ForSome before.files (λ files. begun job files ≡ Ok begin)) where
+    outcome-run : (files : Files) → before.files ≡ Some files → job_outcome job files ≡ concluded job (run_from job.case job.steps begin)
+    outcome-run files told = job_outcome-begun job files is_admitted begin (begins files told)
 
     -- a run that was not finished
-    pub for-unfinished : (end : End) → Finishes case job.steps begin (Err end) → DecidesFor (asked_of_job job) before before (Err end)
-    for-unfinished (Range step cell) finishes = (refl, λ files told. outcome-run files told ∙ ap (concluded job case) finishes)
+    pub for-unfinished : (end : End) → Finishes job.case job.steps begin (Err end) → DecidesFor (asked_of_job job) before before (Err end)
+    for-unfinished (Range step cell) finishes = (refl, λ files told. outcome-run files told ∙ ap (concluded job) finishes)
     for-unfinished Memory finishes = for-memory (asked_of_job job) before before refl
     for-unfinished Done finishes = absurd finishes
     for-unfinished Usage finishes = absurd finishes
     for-unfinished (Case fault) finishes = absurd finishes
     for-unfinished (TooLong file) finishes = absurd finishes
+    for-unfinished (BadVoxel fault) finishes = absurd finishes
     for-unfinished (Cut k) finishes = absurd finishes
     for-unfinished (BadCheckpoint fault) finishes = absurd finishes
     for-unfinished (Past at to) finishes = absurd finishes
     for-unfinished (StoreFault file) finishes = absurd finishes
     for-unfinished SinkFault finishes = absurd finishes
 
-    module _ (left : Left) (leaves : Leaves case job.steps begin left) where
+    module _ (left : Left) (leaves : Leaves job.case job.steps begin left) where
       outcome-left : (files : Files) → before.files ≡ Some files → job_outcome job files ≡ Ok (record { files = left_files job left; report = Run left.report })
       outcome-left files told =
-          outcome-run files told ∙ ap (concluded job case) leaves.ends ∙ ap (λ f. Ok f) (finished-left job case begin left leaves)
+          outcome-run files told ∙ ap (concluded job) leaves.ends ∙ ap (λ f. Ok f) (finished-left job begin left leaves)
 
-      keeps-left : (valid : IsCase case) → CanBegin case job.steps begin → (files : Files) → before.files ≡ Some files → KeepsLaws job files (Run left.report)
+      keeps-left : (valid : IsCase job.case) → CanBegin job.case job.steps begin → (files : Files) → before.files ≡ Some files → KeepsLaws job files (Run left.report)
       keeps-left valid can files told =
-          let flow : IsFlow case begin.state = record { set = valid.set; space = valid.space; state = can.state } in
-          let law : mass left.state ≡ mass begin.state +ℤ (pos (job.steps - begin.time) *ℤ all_gain case) =
-          mass-run case begin.state left.state begin.time (job.steps - begin.time) flow leaves.ends in
-          keeps-begun job case files is_admitted begin (Run left.report) (begins files told) (ap mass_of leaves.report ∙ law)
-          (subst (λ (r : Report). IsWithinDrift case begin.state (job.steps - begin.time) (momentum_of r)) (sym leaves.report) (within-drift case begin.state left.state begin.time (job.steps - begin.time) job.steps valid leaves.ends))
+          let flow : IsFlow job.case begin.state = record { set = valid.set; space = valid.space; state = can.state } in
+          let law : mass left.state ≡ mass begin.state +ℤ (pos (job.steps - begin.time) *ℤ all_gain job.case) =
+          mass-run job.case begin.state left.state begin.time (job.steps - begin.time) flow leaves.ends in
+          keeps-begun job files begin (Run left.report) (begins files told) (ap mass_of leaves.report ∙ law)
+          (subst (λ (r : Report). IsWithinDrift job.case begin.state (job.steps - begin.time) (momentum_of r)) (sym leaves.report) (within-drift job.case begin.state left.state begin.time (job.steps - begin.time) job.steps valid leaves.ends))
 
       -- files that were written
-      pub for-saved : (after : StoreState) → IsCase case → CanBegin case job.steps begin → after.read_faults ≡ before.read_faults
+      pub for-saved : (after : StoreState) → IsCase job.case → CanBegin job.case job.steps begin → after.read_faults ≡ before.read_faults
           → SavesAll (left_files job left) before after (Ok tt) → DecidesFor (asked_of_job job) before after (Ok (Run left.report))
       for-saved after valid can reads saves = (
         record { reads = reads; writes = saves.0 },
@@ -151,7 +146,7 @@ module _ (job : Job) (case : FlowCase) (is_admitted : admitted job ≡ Ok case) 
           let t = cut files told in
           (t.0, t.1, subst (λ o. IsOkAnd o (λ run. CutAt k run.files files t.0)) (sym (outcome-left files told)) t.2)
 
-      named : (save : Option (List ℕ)) (after : StoreState) → NthFault 0 (checkpoint_file job left save) before after
+      named : (save : Option (List ℕ)) (after : StoreState) → NthFault 0 (checkpoint_file job.bytes left save) before after
           → NamedFault before.write_faults after.write_faults save
       named None after fault = absurd fault
       named (Some name) after fault = fault
@@ -165,11 +160,13 @@ module _ (job : Job) (case : FlowCase) (is_admitted : admitted job ≡ Ok case) 
           let t = saves files told in
           (t.0, t.1, subst (λ o. MatchResult o (λ run. CutShort run.files files t.0) (λ refused. t.0 ≡ files)) (sym (outcome-left files told)) t.2)
       for-unsaved after reads (StoreFault CaseFile) saves = absurd saves
+      for-unsaved after reads (StoreFault Voxel) saves = absurd saves
       for-unsaved after reads (StoreFault Checkpoint) saves = absurd saves
       for-unsaved after reads Done saves = absurd saves
       for-unsaved after reads Usage saves = absurd saves
       for-unsaved after reads (Case fault) saves = absurd saves
       for-unsaved after reads (TooLong file) saves = absurd saves
+      for-unsaved after reads (BadVoxel fault) saves = absurd saves
       for-unsaved after reads (Cut k) saves = absurd saves
       for-unsaved after reads (BadCheckpoint fault) saves = absurd saves
       for-unsaved after reads (Past at to) saves = absurd saves

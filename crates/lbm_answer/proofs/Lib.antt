@@ -5,10 +5,12 @@ pub mod Stepped
 pub mod Populations
 pub mod Runs
 pub mod Asked
+pub mod FirstFiles
 pub mod Deciding
 pub mod LeftFiles
 pub mod PrintedFits
 pub mod Requests
+pub mod Completeness
 pub mod GenLength
 pub mod BadCuts
 pub mod Beginnings

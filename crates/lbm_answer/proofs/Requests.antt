@@ -1,8 +1,8 @@
 -- What may be decided for a request.
-use Rattle.std.proofs.Common.{◌≡◌, ◌∙◌, ℕ, List, Option, Some, None, Result, Ok, Err, inl, inr, refl, sym, ap, subst}
+use Rattle.std.proofs.Common.{◌≡◌, ◌∙◌, ℕ, ◌++◌, List, Option, Some, None, Result, Ok, Err, inl, inr, refl, sym, ap, subst}
 use Rattle.std.specs.Prelude.{IsOk, IsOkAnd, MatchResult}
 use Rattle.std.specs.Option.{ForSome}
-use Rattle.lbm_store.specs.Outside.{Files, StoreState, content}
+use Rattle.lbm_store.specs.Outside.{Files, StoreState}
 use Rattle.lbm_model.specs.State.{mass}
 use Rattle.lbm_model.specs.Case.{FlowCase}
 use Rattle.lbm_model.specs.Flow.{first}
@@ -13,25 +13,26 @@ use Rattle.lbm_case.specs.Refusals.{Refuses as CaseRefuses}
 use Rattle.lbm_words.specs.declared.end.WordsEnd.{WordsEnd}
 use Rattle.lbm_words.specs.declared.end.WordsEnd.TheVariants as words_ends
 use Rattle.lbm_words.specs.Ends.{Gives}
-use Rattle.lbm_words.specs.Request.{Run, Check, Demo, Request, run, check, demo}
+use Rattle.lbm_words.specs.Request.{Run, Check, Demo, Voxels, Request, run, check, demo, voxels}
 use Rattle.lbm_answer.specs.declared.answer.File.{File}
-use Rattle.lbm_answer.specs.declared.answer.File.TheVariants.{CaseFile, Checkpoint, Out, Save}
+use Rattle.lbm_answer.specs.declared.answer.File.TheVariants.{CaseFile, Voxel, Checkpoint, Out, Save}
 use Rattle.lbm_answer.specs.declared.answer.End.{End}
-use Rattle.lbm_answer.specs.declared.answer.End.TheVariants.{Done, Usage, Case, TooLong, Cut, Checkpoint as BadCheckpoint, Past, Range, StoreFault, SinkFault, Memory}
+use Rattle.lbm_answer.specs.declared.answer.End.TheVariants.{Done, Usage, Case, TooLong, Voxel as BadVoxel, Cut, Checkpoint as BadCheckpoint, Past, Range, StoreFault, SinkFault, Memory}
 use Rattle.lbm_answer.specs.declared.report.Report.{Report}
 use Rattle.lbm_answer.specs.Causes.{case_end, words_end}
-use Rattle.lbm_answer.specs.Files.{ReadsCaseFile}
+use Rattle.lbm_answer.specs.Files.{ReadsAs}
 use Rattle.lbm_answer.specs.Reports.{check_report, mass_of}
-use Rattle.lbm_answer.specs.Outcome.{CutAt, CutShort, case_bytes, demo_job, run_job, written}
-use Rattle.lbm_answer.specs.Faults.{NamedFault}
-use Rattle.lbm_answer.specs.Answer.{Asked, Decides, DecidesFor, Decision, asked_of, asked_of_job}
-use Rattle.lbm_answer.proofs.Asked.{case_bytes-content, run-unread, check-unread, run-read, run-admitted, run-keeps, check-fault, check-read, demo-outcome}
+use Rattle.lbm_answer.specs.Gen.{gen}
+use Rattle.lbm_answer.specs.Outcome.{Job, CutAt, CutShort, admitted, case_read, voxels_read, demo_job, job_of, run_job, written}
+use Rattle.lbm_answer.specs.Faults.{FaultAt, NamedFault}
+use Rattle.lbm_answer.specs.Answer.{Asked, Decides, DecidesFor, Decision, asked_of, asked_of_job, ready_of, ready_job, ready_voxels}
+use Rattle.lbm_answer.proofs.Asked.{run-unread, check-unread, voxels-uncased, voxels-unread, demo-refused, run-job, demo-job, voxels-job, outcome-job, keeps-job, check-read}
 use Rattle.lbm_answer.proofs.Deciding.{for-memory}
 
 -- over these files two are asked the same, and the second has the names of the first
 record AsksSame (asked other : Asked) (files : Files) : Type 0 where
   outcome : other.outcome files ≡ asked.outcome files
-  admitted : other.admitted files ≡ asked.admitted files
+  ready : (file : File) → asked.ready file files → other.ready file files
   keeps : (report : Report) → asked.keeps files report → other.keeps files report
 
 abbrev HasNames : Asked → Asked → Type 0
@@ -54,8 +55,10 @@ for-same asked other before after same names (Err Memory) d = λ files told.
     let t = d files told in
     (t.0, t.1, subst (λ o. MatchResult o (λ left. CutShort left.files files t.0) (λ refused. t.0 ≡ files)) (sym (same files told).outcome) t.2)
 for-same asked other before after same names (Err (StoreFault CaseFile)) d = ((names CaseFile _ _ d.0.0, d.0.1), d.1)
+for-same asked other before after same names (Err (StoreFault Voxel)) d =
+    ((names Voxel _ _ d.0.0, d.0.1), d.1, λ files told. (same files told).ready Voxel (d.2 files told))
 for-same asked other before after same names (Err (StoreFault Checkpoint)) d =
-    ((names Checkpoint _ _ d.0.0, d.0.1), d.1, λ files told. subst (λ (o : Result FlowCase End). IsOk o) (sym (same files told).admitted) (d.2 files told))
+    ((names Checkpoint _ _ d.0.0, d.0.1), d.1, λ files told. (same files told).ready Checkpoint (d.2 files told))
 for-same asked other before after same names (Err (StoreFault Out)) d = (
   (names Out _ _ d.0.0, d.0.1),
   λ files told.
@@ -70,6 +73,7 @@ for-same asked other before after same names (Err (StoreFault Save)) d = (
 )
 for-same asked other before after same names (Err (Case fault)) d = (d.0, λ files told. (same files told).outcome ∙ d.1 files told)
 for-same asked other before after same names (Err (TooLong file)) d = (d.0, λ files told. (same files told).outcome ∙ d.1 files told)
+for-same asked other before after same names (Err (BadVoxel fault)) d = (d.0, λ files told. (same files told).outcome ∙ d.1 files told)
 for-same asked other before after same names (Err (Cut k)) d = (d.0, λ files told. (same files told).outcome ∙ d.1 files told)
 for-same asked other before after same names (Err (BadCheckpoint fault)) d = (d.0, λ files told. (same files told).outcome ∙ d.1 files told)
 for-same asked other before after same names (Err (Past at to)) d = (d.0, λ files told. (same files told).outcome ∙ d.1 files told)
@@ -78,93 +82,137 @@ for-same asked other before after same names (Err Usage) d = absurd d
 for-same asked other before after same names (Err Done) d = absurd d
 for-same asked other before after same names (Err SinkFault) d = absurd d
 
--- ---- the bytes of a case file
+-- ---- the files that are read first
 
--- a request that names the case file, whose bytes were not read
-for-unread : (A : Type 0) (asked : Asked) (name : List ℕ) (before after : StoreState) → asked.name CaseFile ≡ Some name
-    → ((files : Files) (refused : End) → case_bytes name files ≡ Err refused → asked.outcome files ≡ Err refused)
-    → after.files ≡ before.files → after.write_faults ≡ before.write_faults
-    → (end : End) → ReadsCaseFile {A = A} before after name (Err end) → DecidesFor asked before after (Err end)
-for-unread A asked name before after named refuses same writes (TooLong CaseFile) read = (read.0, λ files told. refuses files _ (read.1 files told))
-for-unread A asked name before after named refuses same writes (StoreFault CaseFile) read =
-    ((subst (λ (n : Option (List ℕ)). NamedFault before.read_faults after.read_faults n) (sym named) read, writes), same)
-for-unread A asked name before after named refuses same writes Memory read = for-memory asked before after same
-for-unread A asked name before after named refuses same writes (TooLong Checkpoint) read = absurd read
-for-unread A asked name before after named refuses same writes (TooLong Out) read = absurd read
-for-unread A asked name before after named refuses same writes (TooLong Save) read = absurd read
-for-unread A asked name before after named refuses same writes (StoreFault Checkpoint) read = absurd read
-for-unread A asked name before after named refuses same writes (StoreFault Out) read = absurd read
-for-unread A asked name before after named refuses same writes (StoreFault Save) read = absurd read
-for-unread A asked name before after named refuses same writes Done read = absurd read
-for-unread A asked name before after named refuses same writes Usage read = absurd read
-for-unread A asked name before after named refuses same writes (Case fault) read = absurd read
-for-unread A asked name before after named refuses same writes (Cut k) read = absurd read
-for-unread A asked name before after named refuses same writes (BadCheckpoint fault) read = absurd read
-for-unread A asked name before after named refuses same writes (Past at to) read = absurd read
-for-unread A asked name before after named refuses same writes (Range step cell) read = absurd read
-for-unread A asked name before after named refuses same writes SinkFault read = absurd read
+-- a file that was not read, or whose bytes are refused
+for-unread : {X Y : Type 0} (view : X → Y) (kind : File) (name : List ℕ) (reading : Files → Result Y End) (asked : Asked) (before after : StoreState)
+    → ((files : Files) (refused : End) → before.files ≡ Some files → reading files ≡ Err refused → asked.outcome files ≡ Err refused)
+    → (FaultAt name before.read_faults after.read_faults → DecidesFor asked before after (Err (StoreFault kind)))
+    → after.files ≡ before.files
+    → (end : End) → ReadsAs view kind name reading before after (Err end) → DecidesFor asked before after (Err end)
+for-unread view kind name reading asked before after refuses fault same (TooLong file) read = (read.0, λ files told. refuses files _ told (read.1 files told))
+for-unread view kind name reading asked before after refuses fault same (Case why) read = (read.0, λ files told. refuses files _ told (read.1 files told))
+for-unread view kind name reading asked before after refuses fault same (BadVoxel why) read = (read.0, λ files told. refuses files _ told (read.1 files told))
+for-unread view kind name reading asked before after refuses fault same (StoreFault failed) read =
+    subst (λ (file : File). DecidesFor asked before after (Err (StoreFault file))) (sym read.0) (fault read.1)
+for-unread view kind name reading asked before after refuses fault same Memory read = for-memory asked before after same
+for-unread view kind name reading asked before after refuses fault same Done read = absurd read
+for-unread view kind name reading asked before after refuses fault same Usage read = absurd read
+for-unread view kind name reading asked before after refuses fault same (Cut k) read = absurd read
+for-unread view kind name reading asked before after refuses fault same (BadCheckpoint why) read = absurd read
+for-unread view kind name reading asked before after refuses fault same (Past at to) read = absurd read
+for-unread view kind name reading asked before after refuses fault same (Range step cell) read = absurd read
+for-unread view kind name reading asked before after refuses fault same SinkFault read = absurd read
 
-pub for-unread_run : (A : Type 0) (r : Run) (before after : StoreState) → after.files ≡ before.files → after.write_faults ≡ before.write_faults
-    → (end : End) → ReadsCaseFile {A = A} before after r.case (Err end) → DecidesFor (asked_of (run r)) before after (Err end)
-for-unread_run A r before after = for-unread A (asked_of (run r)) r.case before after refl (λ files refused is. run-unread files refused r is)
+module _ {X : Type 0} (view : X → List ℕ × FlowCase) (before after : StoreState) (same : after.files ≡ before.files) (writes : after.write_faults ≡ before.write_faults) where
+  -- the case file of a request
+  case_unread : (name : List ℕ) (asked : Asked) → asked.name CaseFile ≡ Some name
+      → ((files : Files) (refused : End) → case_read name files ≡ Err refused → asked.outcome files ≡ Err refused)
+      → (end : End) → ReadsAs view CaseFile name (case_read name) before after (Err end) → DecidesFor asked before after (Err end)
+  case_unread name asked named refuses =
+      for-unread view CaseFile name (case_read name) asked before after (λ files refused told. refuses files refused)
+      (λ rose. ((subst (λ (n : Option (List ℕ)). NamedFault before.read_faults after.read_faults n) (sym named) rose, writes), same))
+      same
 
-pub for-unread_check : (A : Type 0) (c : Check) (before after : StoreState) → after.files ≡ before.files → after.write_faults ≡ before.write_faults
-    → (end : End) → ReadsCaseFile {A = A} before after c.case (Err end) → DecidesFor (asked_of (check c)) before after (Err end)
-for-unread_check A c before after = for-unread A (asked_of (check c)) c.case before after refl (λ files refused is. check-unread files refused c is)
+  pub for-unread_run : (r : Run) (end : End) → ReadsAs view CaseFile r.case (case_read r.case) before after (Err end) → DecidesFor (asked_of (run r)) before after (Err end)
+  for-unread_run r = case_unread r.case (asked_of (run r)) refl (λ files refused is. run-unread files refused r is)
+
+  pub for-unread_check : (c : Check) (end : End) → ReadsAs view CaseFile c.case (case_read c.case) before after (Err end) → DecidesFor (asked_of (check c)) before after (Err end)
+  for-unread_check c = case_unread c.case (asked_of (check c)) refl (λ files refused is. check-unread files refused c is)
+
+  pub for-uncased_voxels : (v : Voxels) (end : End) → ReadsAs view CaseFile v.run.case (case_read v.run.case) before after (Err end) → DecidesFor (asked_of (voxels v)) before after (Err end)
+  for-uncased_voxels v = case_unread v.run.case (asked_of (voxels v)) refl (λ files refused is. voxels-uncased files refused v is)
+
+  -- the voxel file, behind a case file that was read
+  pub for-unread_voxels : (v : Voxels) (bytes : List ℕ) (case : FlowCase) → ForSome before.files (λ files. case_read v.run.case files ≡ Ok (bytes, case))
+      → (end : End) → ReadsAs view Voxel v.file (voxels_read v.file case) before after (Err end) → DecidesFor (asked_of (voxels v)) before after (Err end)
+  for-unread_voxels v bytes case read =
+      for-unread view Voxel v.file (voxels_read v.file case) (asked_of (voxels v)) before after
+      (λ files refused told is. voxels-unread files refused v bytes case (read files told) is)
+      (λ rose. ((rose, writes), same, λ files told. rw (read files told) refl))
+      same
+
+-- the case that is generated
+pub for-uncased_demo : (d : Demo) (before : StoreState) (end : CaseEnd) → CaseRefuses end (case_of (gen d.n)) → DecidesFor (asked_of (demo d)) before before (Err (case_end end))
+for-uncased_demo d before (case_ends.Fault fault) is = (refl, λ files told. demo-refused files d fault is)
+for-uncased_demo d before case_ends.Memory is = for-memory (asked_of (demo d)) before before refl
 
 -- ---- a run that is asked for
 
-run_names : (r : Run) (bytes : List ℕ) → HasNames (asked_of_job (run_job r bytes)) (asked_of (run r))
-run_names r bytes CaseFile before after rose = absurd rose
-run_names r bytes Checkpoint before after rose = rose
-run_names r bytes Out before after rose = rose
-run_names r bytes Save before after rose = rose
-
-pub for-run : (r : Run) (bytes : List ℕ) (before after : StoreState) → ForSome before.files (λ files. case_bytes r.case files ≡ Ok bytes)
-    → (decision : Decision) → DecidesFor (asked_of_job (run_job r bytes)) before after decision → DecidesFor (asked_of (run r)) before after decision
-for-run r bytes before after read decision d =
-    for-same (asked_of_job (run_job r bytes)) (asked_of (run r)) before after
+for-job : (request : Request) (job : Job) (before after : StoreState) → ForSome before.files (λ files. job_of request files ≡ Ok job)
+    → ForSome before.files (ready_voxels request) → HasNames (asked_of_job job) (asked_of request)
+    → (decision : Decision) → DecidesFor (asked_of_job job) before after decision → DecidesFor (asked_of request) before after decision
+for-job request job before after is_job ready names =
+    for-same (asked_of_job job) (asked_of request) before after
     (λ files told. record {
-      outcome = run-read files bytes r (read files told);
-      admitted = run-admitted files bytes r (read files told);
-      keeps = λ report keeps. run-keeps files bytes r report (read files told) keeps;
+      outcome = outcome-job files request job (is_job files told);
+      ready = ready_for files told;
+      keeps = λ report keeps. keeps-job files request job report (is_job files told) keeps;
     })
-    (run_names r bytes) decision d
+    names
+  where
+    ready_for : (files : Files) → before.files ≡ Some files → (file : File) → ready_job job file files → ready_of request file files
+    ready_for files told Voxel is = ready files told
+    ready_for files told Checkpoint is = rw (is_job files told) is
+    ready_for files told CaseFile is = tt
+    ready_for files told Out is = tt
+    ready_for files told Save is = tt
 
-demo_names : (d : Demo) → HasNames (asked_of_job (demo_job d)) (asked_of (demo d))
-demo_names d CaseFile before after rose = absurd rose
-demo_names d Checkpoint before after rose = absurd rose
-demo_names d Out before after rose = rose
-demo_names d Save before after rose = rose
+run_names : (r : Run) (case : FlowCase) (bytes : List ℕ) → HasNames (asked_of_job (run_job r case bytes)) (asked_of (run r))
+run_names r case bytes CaseFile before after rose = absurd rose
+run_names r case bytes Voxel before after rose = absurd rose
+run_names r case bytes Checkpoint before after rose = rose
+run_names r case bytes Out before after rose = rose
+run_names r case bytes Save before after rose = rose
 
-pub for-demo : (d : Demo) (before after : StoreState) (decision : Decision)
-    → DecidesFor (asked_of_job (demo_job d)) before after decision → DecidesFor (asked_of (demo d)) before after decision
-for-demo d before after decision decides =
-    for-same (asked_of_job (demo_job d)) (asked_of (demo d)) before after
-    (λ files told. record { outcome = demo-outcome d files; admitted = refl; keeps = λ report keeps. keeps })
-    (demo_names d) decision decides
+pub for-run : (r : Run) (bytes : List ℕ) (case : FlowCase) (before after : StoreState) → ForSome before.files (λ files. case_read r.case files ≡ Ok (bytes, case))
+    → (decision : Decision) → DecidesFor (asked_of_job (run_job r case bytes)) before after decision → DecidesFor (asked_of (run r)) before after decision
+for-run r bytes case before after read =
+    for-job (run r) (run_job r case bytes) before after (λ files told. run-job files r bytes case (read files told)) (λ files told. tt) (run_names r case bytes)
+
+demo_names : (d : Demo) (case : FlowCase) → HasNames (asked_of_job (demo_job d case)) (asked_of (demo d))
+demo_names d case CaseFile before after rose = absurd rose
+demo_names d case Voxel before after rose = absurd rose
+demo_names d case Checkpoint before after rose = absurd rose
+demo_names d case Out before after rose = rose
+demo_names d case Save before after rose = rose
+
+pub for-demo : (d : Demo) (case : FlowCase) (before after : StoreState) → case_of (gen d.n) ≡ Ok case
+    → (decision : Decision) → DecidesFor (asked_of_job (demo_job d case)) before after decision → DecidesFor (asked_of (demo d)) before after decision
+for-demo d case before after is =
+    for-job (demo d) (demo_job d case) before after (λ files told. demo-job files d case is) (λ files told. tt) (demo_names d case)
+
+voxel_names : (v : Voxels) (case : FlowCase) (bytes : List ℕ) → HasNames (asked_of_job (run_job v.run case bytes)) (asked_of (voxels v))
+voxel_names v case bytes CaseFile before after rose = absurd rose
+voxel_names v case bytes Voxel before after rose = absurd rose
+voxel_names v case bytes Checkpoint before after rose = rose
+voxel_names v case bytes Out before after rose = rose
+voxel_names v case bytes Save before after rose = rose
+
+pub for-voxels : (v : Voxels) (bytes voxel_bytes : List ℕ) (case shaped : FlowCase) (before after : StoreState)
+    → ForSome before.files (λ files. case_read v.run.case files ≡ Ok (bytes, case)) → ForSome before.files (λ files. voxels_read v.file case files ≡ Ok (voxel_bytes, shaped))
+    → (decision : Decision) → DecidesFor (asked_of_job (run_job v.run shaped (bytes ++ voxel_bytes))) before after decision → DecidesFor (asked_of (voxels v)) before after decision
+for-voxels v bytes voxel_bytes case shaped before after read shape =
+    for-job (voxels v) (run_job v.run shaped (bytes ++ voxel_bytes)) before after
+    (λ files told. voxels-job files v bytes voxel_bytes case shaped (read files told) (shape files told))
+    (λ files told. rw (read files told) refl)
+    (voxel_names v shaped (bytes ++ voxel_bytes))
 
 -- ---- a check
 
-module _ (c : Check) (bytes : List ℕ) (before after : StoreState)
-    (read : ForSome before.files (λ files. case_bytes c.case files ≡ Ok bytes)) (same : after ≡ before) where
-  pub for-uncased_check : (end : CaseEnd) → CaseRefuses end (case_of bytes) → DecidesFor (asked_of (check c)) before after (Err (case_end end))
-  for-uncased_check (case_ends.Fault fault) is = (same, λ files told. check-fault files bytes c fault (read files told) is)
-  for-uncased_check case_ends.Memory is = for-memory (asked_of (check c)) before after (ap (λ (s : StoreState). s.files) same)
-
-  pub for-checked : (case : FlowCase) (report : Report) → case_of bytes ≡ Ok case → report ≡ check_report case → DecidesFor (asked_of (check c)) before after (Ok report)
-  for-checked case report is reports = (
-    record { reads = ap (λ (s : StoreState). s.read_faults) same; writes = ap (λ (s : StoreState). s.write_faults) same },
-    λ files told.
-        let found : case_of (content files c.case) ≡ Ok case = ap case_of (case_bytes-content c.case bytes files (read files told)) ∙ is in (
-          files,
-          ap (λ (s : StoreState). s.files) same ∙ told,
-          (
-            subst (λ o. IsOkAnd o (λ left. (left.report ≡ report) × (files ≡ written left.files files))) (sym (check-read files bytes c case (read files told) is)) (sym reports, refl),
-            subst (λ o. IsOkAnd o (λ case. mass_of report ≡ mass (first case))) (sym found) (ap mass_of reports),
-          ),
-        ),
-  )
+pub for-checked : (c : Check) (bytes : List ℕ) (case : FlowCase) (before after : StoreState) → ForSome before.files (λ files. case_read c.case files ≡ Ok (bytes, case))
+    → after ≡ before → (report : Report) → report ≡ check_report case → DecidesFor (asked_of (check c)) before after (Ok report)
+for-checked c bytes case before after read same report reports = (
+  record { reads = ap (λ (s : StoreState). s.read_faults) same; writes = ap (λ (s : StoreState). s.write_faults) same },
+  λ files told. (
+    files,
+    ap (λ (s : StoreState). s.files) same ∙ told,
+    (
+      subst (λ o. IsOkAnd o (λ left. (left.report ≡ report) × (files ≡ written left.files files))) (sym (check-read files c bytes case (read files told))) (sym reports, refl),
+      subst (λ (o : Result (List ℕ × FlowCase) End). IsOkAnd o (λ found. mass_of report ≡ mass (first found.1))) (sym (read files told)) (ap mass_of reports),
+    ),
+  ),
+)
 
 -- ---- words
 

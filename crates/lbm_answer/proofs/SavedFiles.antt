@@ -7,9 +7,9 @@ use Rattle.lbm_store.specs.declared.outside.IoEnd.{IoEnd}
 use Rattle.lbm_store.specs.Outside.{Files, Counts, StoreState, with}
 use Rattle.lbm_store.specs.Sinks.{WritesFile}
 use Rattle.lbm_store.proofs.WholeFiles.{told-whole, told-front}
-use Rattle.lbm_answer.specs.declared.answer.File.TheVariants.{CaseFile, Checkpoint, Out, Save}
+use Rattle.lbm_answer.specs.declared.answer.File.TheVariants.{CaseFile, Voxel, Checkpoint, Out, Save}
 use Rattle.lbm_answer.specs.declared.answer.End.{End}
-use Rattle.lbm_answer.specs.declared.answer.End.TheVariants.{Done, Usage, Case, TooLong, Cut, Checkpoint as BadCheckpoint, Past, Range, StoreFault, SinkFault, Memory}
+use Rattle.lbm_answer.specs.declared.answer.End.TheVariants.{Done, Usage, Case, TooLong, Voxel as BadVoxel, Cut, Checkpoint as BadCheckpoint, Past, Range, StoreFault, SinkFault, Memory}
 use Rattle.lbm_answer.specs.Faults.{FaultAt}
 use Rattle.lbm_answer.specs.Outcome.{Written, OfFiles, HoldsFront}
 use Rattle.lbm_answer.specs.Jobs.{SavesFile, SavesAll}
@@ -48,11 +48,13 @@ module _ (out save : Written) (before between after : StoreState)
       (subst (λ (counts : Counts). FaultAt save.name counts after.write_faults) first.0 second.1, behind (λ old now. HoldsFront old save now) second.2)
   saves-second (Err (StoreFault Out)) second = absurd cc
   saves-second (Err (StoreFault CaseFile)) second = absurd cc
+  saves-second (Err (StoreFault Voxel)) second = absurd cc
   saves-second (Err (StoreFault Checkpoint)) second = absurd cc
   saves-second (Err Done) second = absurd second
   saves-second (Err Usage) second = absurd second
   saves-second (Err (Case fault)) second = absurd second
   saves-second (Err (TooLong file)) second = absurd second
+  saves-second (Err (BadVoxel fault)) second = absurd second
   saves-second (Err (Cut k)) second = absurd second
   saves-second (Err (BadCheckpoint fault)) second = absurd second
   saves-second (Err (Past at to)) second = absurd second

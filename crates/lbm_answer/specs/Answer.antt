@@ -1,22 +1,20 @@
 -- What a call may answer, and what it leaves outside. First it decides, from the words and the store; then it tells the sink.
 use Rattle.std.specs.Prelude.{◌≡◌, ◌⊎◌, ◌-◌, List, ℕ, Option, Some, None, Result, Ok, Err, IsOk, IsOkAnd, MatchResult, pos, ◌+ℤ◌, ◌*ℤ◌}
 use Rattle.std.specs.Option.{ForSome}
-use Rattle.lbm_store.specs.Outside.{Files, StoreState, SinkState, Rose, GotFront, content, followed}
+use Rattle.lbm_store.specs.Outside.{Files, StoreState, SinkState, Rose, GotFront, followed}
 use Rattle.lbm_model.specs.State.{mass}
-use Rattle.lbm_model.specs.Case.{FlowCase, all_gain}
+use Rattle.lbm_model.specs.Case.{all_gain}
 use Rattle.lbm_model.specs.Flow.{first}
-use Rattle.lbm_case.specs.CaseOf.{case_of}
-use Rattle.lbm_words.specs.Request.{Request, run, check, demo}
+use Rattle.lbm_words.specs.Request.{Request, run, check, demo, voxels}
 use Rattle.lbm_words.specs.Words.{request_of}
 use Rattle.lbm_answer.specs.declared.answer.File.{File}
-use Rattle.lbm_answer.specs.declared.answer.File.TheVariants.{CaseFile, Checkpoint, Out, Save}
+use Rattle.lbm_answer.specs.declared.answer.File.TheVariants.{CaseFile, Voxel, Checkpoint, Out, Save}
 use Rattle.lbm_answer.specs.declared.answer.End.{End}
-use Rattle.lbm_answer.specs.declared.answer.End.TheVariants.{Done, Usage, Case, TooLong, Cut, Checkpoint as BadCheckpoint, Past, Range, StoreFault, SinkFault, Memory}
+use Rattle.lbm_answer.specs.declared.answer.End.TheVariants.{Done, Usage, Case, TooLong, Voxel as BadVoxel, Cut, Checkpoint as BadCheckpoint, Past, Range, StoreFault, SinkFault, Memory}
 use Rattle.lbm_answer.specs.declared.report.Report.{Report}
 use Rattle.lbm_answer.specs.Lines.{line_of, report_line}
 use Rattle.lbm_answer.specs.Faults.{NoFault, FaultOf}
-use Rattle.lbm_model.specs.Refusals.{◌>>=◌}
-use Rattle.lbm_answer.specs.Outcome.{Job, Beginning, Finished, OfFiles, CutAt, CutShort, admitted, begun, case_bytes, demo_job, job_outcome, outcome, run_job, written}
+use Rattle.lbm_answer.specs.Outcome.{Job, Finished, OfFiles, CutAt, CutShort, admitted, begun, case_read, job_of, job_outcome, outcome, written}
 use Rattle.lbm_answer.specs.Reports.{mass_of, momentum_of}
 use Rattle.lbm_answer.specs.Drift.{IsWithinDrift}
 
@@ -24,11 +22,11 @@ use Rattle.lbm_answer.specs.Drift.{IsWithinDrift}
 abbrev pub Decision : Type 0
 Decision = Result Report End
 
--- ---- what a call is asked, as far as its answer goes: its outcome over files, its case where nothing that comes before the
--- checkpoint is refused, the laws that its report keeps, and the names of its files
+-- ---- what a call is asked, as far as its answer goes: its outcome over files, that nothing is refused before one of them is
+-- read, the laws that its report keeps, and the names of its files
 pub record Asked : Type 1 where
   pub outcome : Files → Result Finished End
-  pub admitted : Files → Result FlowCase End
+  pub ready : File → Files → Type 0
   pub keeps : Files → Report → Type 0
   pub name : File → Option (List ℕ)
 
@@ -50,12 +48,14 @@ DecidesFor asked before after (Err Memory) =
     OfFiles before after (λ files now. MatchResult (asked.outcome files) (λ left. CutShort left.files files now) (λ refused. now ≡ files))
 -- a fault of the store, the only one that it has counted in this call, where nothing was refused before
 DecidesFor asked before after (Err (StoreFault CaseFile)) = FaultOf asked.name CaseFile before after × (after.files ≡ before.files)
+DecidesFor asked before after (Err (StoreFault Voxel)) = FaultOf asked.name Voxel before after × (after.files ≡ before.files) × ForSome before.files (asked.ready Voxel)
 DecidesFor asked before after (Err (StoreFault Checkpoint)) =
-    FaultOf asked.name Checkpoint before after × (after.files ≡ before.files) × ForSome before.files (λ files. IsOk (asked.admitted files))
+    FaultOf asked.name Checkpoint before after × (after.files ≡ before.files) × ForSome before.files (asked.ready Checkpoint)
 DecidesFor asked before after (Err (StoreFault Out)) = FaultOf asked.name Out before after × StopsAt 0 asked before after
 DecidesFor asked before after (Err (StoreFault Save)) = FaultOf asked.name Save before after × StopsAt 1 asked before after
 DecidesFor asked before after (Err (Case fault)) = Refuses asked before after (Case fault)
 DecidesFor asked before after (Err (TooLong file)) = Refuses asked before after (TooLong file)
+DecidesFor asked before after (Err (BadVoxel fault)) = Refuses asked before after (BadVoxel fault)
 DecidesFor asked before after (Err (Cut k)) = Refuses asked before after (Cut k)
 DecidesFor asked before after (Err (BadCheckpoint fault)) = Refuses asked before after (BadCheckpoint fault)
 DecidesFor asked before after (Err (Past at to)) = Refuses asked before after (Past at to)
@@ -67,52 +67,50 @@ DecidesFor asked before after (Err SinkFault) = ⊥
 
 -- ---- a run
 
--- the case of a run and where it begins
-abbrev pub beginning_of : Job → Files → Result (FlowCase × Beginning) End
-beginning_of job files = do
-  case ← admitted job
-  begin ← begun job files case
-  Ok (case, begin)
-
 -- The mass that a run reports is that of the state with which it begins, and what the walls give in each step. Its momentum is
 -- within the drift.
 abbrev pub KeepsLaws : Job → Files → Report → Type 0
-KeepsLaws job files report = IsOkAnd (beginning_of job files) (λ b.
-    (mass_of report ≡ mass b.1.state +ℤ (pos (job.steps - b.1.time) *ℤ all_gain b.0))
-    × IsWithinDrift b.0 b.1.state (job.steps - b.1.time) (momentum_of report))
+KeepsLaws job files report = IsOkAnd (begun job files) (λ begin.
+    (mass_of report ≡ mass begin.state +ℤ (pos (job.steps - begin.time) *ℤ all_gain job.case))
+    × IsWithinDrift job.case begin.state (job.steps - begin.time) (momentum_of report))
+
+-- its case was read before, and its cutting is not refused before the checkpoint is read
+abbrev pub ready_job : Job → File → Files → Type 0
+ready_job job Checkpoint files = IsOk (admitted job)
+ready_job job file files = Unit {0}
 
 abbrev pub job_name : Job → File → Option (List ℕ)
 job_name job CaseFile = None
+job_name job Voxel = None
 job_name job Checkpoint = job.resume
 job_name job Out = Some job.out
 job_name job Save = job.save
 
 -- what a run is asked
 abbrev pub asked_of_job : Job → Asked
-asked_of_job job = record { outcome = job_outcome job; admitted = λ files. admitted job; keeps = KeepsLaws job; name = job_name job }
+asked_of_job job = record { outcome = job_outcome job; ready = ready_job job; keeps = KeepsLaws job; name = job_name job }
 
 -- ---- a request
 
--- the run that a request asks for, over the bytes of its case; a check asks for none
-abbrev pub job_of : Request → Files → Result Job End
-job_of (run r) files = do
-  bytes ← case_bytes r.case files
-  Ok (run_job r bytes)
-job_of (check c) files = Err Usage
-job_of (demo d) files = Ok (demo_job d)
+-- the case file is not refused before the voxel file is read
+abbrev pub ready_voxels : Request → Files → Type 0
+ready_voxels (voxels v) files = IsOk (case_read v.run.case files)
+ready_voxels request files = Unit {0}
 
-abbrev pub admitted_of : Request → Files → Result FlowCase End
-admitted_of request files = do
-  job ← job_of request files
-  admitted job
+-- and neither the case nor its cutting before the checkpoint is read
+abbrev pub ready_of : Request → File → Files → Type 0
+ready_of request Voxel files = ready_voxels request files
+ready_of request Checkpoint files = IsOkAnd (job_of request files) (λ job. IsOk (admitted job))
+ready_of request file files = Unit {0}
 
 -- the mass that a check reports is that of the first state
 abbrev pub keeps_of : Request → Files → Report → Type 0
-keeps_of (check c) files report = IsOkAnd (case_of (content files c.case)) (λ case. mass_of report ≡ mass (first case))
+keeps_of (check c) files report = IsOkAnd (case_read c.case files) (λ read. mass_of report ≡ mass (first read.1))
 keeps_of request files report = IsOkAnd (job_of request files) (λ job. KeepsLaws job files report)
 
 abbrev pub name_of : Request → File → Option (List ℕ)
 name_of (run r) CaseFile = Some r.case
+name_of (run r) Voxel = None
 name_of (run r) Checkpoint = r.resume
 name_of (run r) Out = Some r.out
 name_of (run r) Save = r.save
@@ -121,10 +119,15 @@ name_of (check c) file = None
 name_of (demo d) Out = Some d.out
 name_of (demo d) Save = d.save
 name_of (demo d) file = None
+name_of (voxels v) CaseFile = Some v.run.case
+name_of (voxels v) Voxel = Some v.file
+name_of (voxels v) Checkpoint = v.run.resume
+name_of (voxels v) Out = Some v.run.out
+name_of (voxels v) Save = v.run.save
 
 -- what words ask
 abbrev pub asked_of : Request → Asked
-asked_of request = record { outcome = outcome request; admitted = admitted_of request; keeps = keeps_of request; name = name_of request }
+asked_of request = record { outcome = outcome request; ready = ready_of request; keeps = keeps_of request; name = name_of request }
 
 -- Words that ask for nothing are refused, unless memory ran out, and the store is as before.
 abbrev pub Decides : Option Request → StoreState → StoreState → Decision → Type 0

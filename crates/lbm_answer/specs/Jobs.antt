@@ -1,5 +1,5 @@
 -- What a run does: each of its steps, and all of them.
-use Rattle.std.specs.Prelude.{◌≡◌, ℕ, zero, suc, ◌≤◌, List, [], ◌∷◌, length, Option, Some, None, IsNone, Result, Ok, Err, option_map, ◌*◌, All}
+use Rattle.std.specs.Prelude.{◌≡◌, ℕ, zero, suc, ◌≤◌, List, [], ◌∷◌, ◌++◌, length, Option, Some, None, IsNone, Result, Ok, Err, option_map, ◌*◌, All}
 use Rattle.std.specs.Option.{ForSome}
 use Rattle.sha2.specs.Sha256.{sha256}
 use Rattle.lbm_space.specs.Torus.{Torus, cells, rows}
@@ -10,6 +10,7 @@ use Rattle.lbm_model.specs.Flow.{IsStateOf, reached, range}
 use Rattle.lbm_model.specs.Small.{IsNarrow}
 use Rattle.lbm_model.specs.Standing.{Standing}
 use Rattle.lbm_ckpt.specs.Ckpt.{ckpt}
+use Rattle.lbm_vtk.specs.declared.Format.{Format}
 use Rattle.lbm_vtk.specs.Vtk.{vtk, FitsInts}
 use Rattle.lbm_words.specs.Request.{choice_view}
 use Rattle.lbm_answer.specs.declared.job.Job.{Job as CodeJob}
@@ -24,10 +25,19 @@ use Rattle.lbm_answer.specs.Faults.{FaultAt}
 use Rattle.lbm_answer.specs.Reports.{printed_moments, run_report}
 use Rattle.lbm_answer.specs.Outcome.{Job, Beginning, Written, OfFiles, HoldsFront, CutAt, CutShort, begun, bad_cut, run_from, written}
 
--- a run as the code has it
-abbrev pub job_view : CodeJob → Job
-job_view j = record {
-  bytes = j.bytes.now;
+-- the bytes of a case file, and then those of a voxel file where there is one
+abbrev pub told_by : List ℕ → Option (List ℕ) → List ℕ
+told_by bytes None = bytes
+told_by bytes (Some voxels) = bytes ++ voxels
+
+abbrev pub job_bytes : CodeJob → List ℕ
+job_bytes j = told_by j.bytes.now (option_map (λ voxels. voxels.now) j.voxels)
+
+-- the run of a case as the code has it
+abbrev pub job_view : FlowCase → CodeJob → Job
+job_view case j = record {
+  case = case;
+  bytes = job_bytes j;
   steps = j.steps;
   out = j.out.now;
   cut = (choice_view j.choice).cut;
@@ -56,14 +66,14 @@ pub record CanBegin (case : FlowCase) (steps : ℕ) (b : Beginning) : Type 0 whe
   pub ahead : b.time ≤ steps
 
 -- where a run begins, or why it does not; where no read has failed, the store is as before
-abbrev pub Begins : Job → FlowCase → StoreState → StoreState → Result CodeBeginning End → Type 0
-Begins job case before after (Ok b) = (after ≡ before) × CanBegin case job.steps (beginning_view b) × ForSome before.files (λ files. begun job files case ≡ Ok (beginning_view b))
-Begins job case before after (Err Memory) = Unit {0}
-Begins job case before after (Err (StoreFault Checkpoint)) = (name : List ℕ) × (job.resume ≡ Some name) × FaultAt name before.read_faults after.read_faults
-Begins job case before after (Err (TooLong Checkpoint)) = (after ≡ before) × ForSome before.files (λ files. begun job files case ≡ Err (TooLong Checkpoint))
-Begins job case before after (Err (BadCheckpoint fault)) = (after ≡ before) × ForSome before.files (λ files. begun job files case ≡ Err (BadCheckpoint fault))
-Begins job case before after (Err (Past at to)) = (after ≡ before) × ForSome before.files (λ files. begun job files case ≡ Err (Past at to))
-Begins job case before after (Err end) = ⊥
+abbrev pub Begins : Job → StoreState → StoreState → Result CodeBeginning End → Type 0
+Begins job before after (Ok b) = (after ≡ before) × CanBegin job.case job.steps (beginning_view b) × ForSome before.files (λ files. begun job files ≡ Ok (beginning_view b))
+Begins job before after (Err Memory) = Unit {0}
+Begins job before after (Err (StoreFault Checkpoint)) = (name : List ℕ) × (job.resume ≡ Some name) × FaultAt name before.read_faults after.read_faults
+Begins job before after (Err (TooLong Checkpoint)) = (after ≡ before) × ForSome before.files (λ files. begun job files ≡ Err (TooLong Checkpoint))
+Begins job before after (Err (BadCheckpoint fault)) = (after ≡ before) × ForSome before.files (λ files. begun job files ≡ Err (BadCheckpoint fault))
+Begins job before after (Err (Past at to)) = (after ≡ before) × ForSome before.files (λ files. begun job files ≡ Err (Past at to))
+Begins job before after (Err end) = ⊥
 
 -- what the state that a run has reached leaves
 pub record Leaves (case : FlowCase) (steps : ℕ) (begin : Beginning) (left : Left) : Type 0 where
@@ -103,12 +113,15 @@ SavesAll files before after (Err Memory) = OfFiles before after (λ old now. Cut
 SavesAll files before after (Err end) = ⊥
 
 -- what is written of the last state
-abbrev pub checkpoint_file : Job → Left → Option (List ℕ) → List Written
-checkpoint_file job left None = []
-checkpoint_file job left (Some name) = record { name = name; bytes = ckpt (sha256 job.bytes) left.report.step left.space left.state } ∷ []
+abbrev pub checkpoint_file : (bytes : List ℕ) → Left → Option (List ℕ) → List Written
+checkpoint_file bytes left None = []
+checkpoint_file bytes left (Some name) = record { name = name; bytes = ckpt (sha256 bytes) left.report.step left.space left.state } ∷ []
+
+abbrev pub files_left : (bytes out : List ℕ) → Option (List ℕ) → Format → Left → List Written
+files_left bytes out save format left = record { name = out; bytes = vtk left.space left.report.step left.moments.items format } ∷ checkpoint_file bytes left save
 
 abbrev pub left_files : Job → Left → List Written
-left_files job left = record { name = job.out; bytes = vtk left.space left.report.step left.moments.items job.format } ∷ checkpoint_file job left job.save
+left_files job left = files_left job.bytes job.out job.save job.format left
 
 -- there is a moment for each cell, whose numbers fit the file, and the state has as many cells
 pub record IsLeft (left : Left) : Type 0 where

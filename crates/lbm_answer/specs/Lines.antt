@@ -7,10 +7,12 @@ use Rattle.lbm_case.specs.declared.fault.CaseFault.TheVariants.{NotToml, Unknown
 use Rattle.lbm_case.specs.Keys.{name_of}
 use Rattle.lbm_ckpt.specs.declared.fault.CkptFault.{CkptFault}
 use Rattle.lbm_ckpt.specs.declared.fault.CkptFault.TheVariants.{Short, Magic, OtherCase, Size, Step, Digest, Wide}
+use Rattle.lbm_voxel.specs.declared.fault.VoxelFault.{VoxelFault}
+use Rattle.lbm_voxel.specs.declared.fault.VoxelFault.TheVariants.{Head, Word, Sides, Count, Value}
 use Rattle.lbm_answer.specs.declared.answer.File.{File}
-use Rattle.lbm_answer.specs.declared.answer.File.TheVariants.{CaseFile, Checkpoint, Out, Save}
+use Rattle.lbm_answer.specs.declared.answer.File.TheVariants.{CaseFile, Voxel, Checkpoint, Out, Save}
 use Rattle.lbm_answer.specs.declared.answer.End.{End}
-use Rattle.lbm_answer.specs.declared.answer.End.TheVariants.{Done, Usage, Case, TooLong, Cut, Checkpoint as BadCheckpoint, Past, Range, StoreFault, SinkFault, Memory}
+use Rattle.lbm_answer.specs.declared.answer.End.TheVariants.{Done, Usage, Case, TooLong, Voxel as BadVoxel, Cut, Checkpoint as BadCheckpoint, Past, Range, StoreFault, SinkFault, Memory}
 use Rattle.lbm_answer.specs.declared.report.Report.{Report}
 use Rattle.lbm_answer.specs.declared.report.Report.TheVariants.{Run, Check}
 
@@ -20,6 +22,7 @@ status_of Done = 0
 status_of Usage = 2
 status_of (Case fault) = 3
 status_of (TooLong file) = 3
+status_of (BadVoxel fault) = 3
 status_of (Cut k) = 3
 status_of (BadCheckpoint fault) = 4
 status_of (Past at to) = 4
@@ -48,6 +51,14 @@ fault_of (Ragged row) = codes "ragged row " ++ decimal row
 fault_of (BadChar row column) = codes "bad character " ++ decimal row ++ codes " " ++ decimal column
 fault_of TooLarge = codes "too large"
 
+-- what the line of a refused voxel file says
+abbrev pub voxel_fault_of : VoxelFault → List ℕ
+voxel_fault_of (Head k) = codes "head " ++ decimal k
+voxel_fault_of (Word n) = codes "word " ++ decimal n
+voxel_fault_of Sides = codes "sides"
+voxel_fault_of Count = codes "count"
+voxel_fault_of (Value k) = codes "value " ++ decimal k
+
 -- what the line of a refused checkpoint says
 abbrev pub checkpoint_fault_of : CkptFault → List ℕ
 checkpoint_fault_of Short = codes "short"
@@ -61,6 +72,7 @@ checkpoint_fault_of Wide = codes "wide"
 -- what a line calls a file
 abbrev pub file_word : File → List ℕ
 file_word CaseFile = codes "case"
+file_word Voxel = codes "voxel"
 file_word Checkpoint = codes "checkpoint"
 file_word Out = codes "out"
 file_word Save = codes "save"
@@ -71,6 +83,7 @@ line_of Done = []
 line_of Usage = codes "refused: usage\n"
 line_of (Case fault) = codes "refused: " ++ fault_of fault ++ codes "\n"
 line_of (TooLong file) = codes "refused: " ++ file_word file ++ codes " too long\n"
+line_of (BadVoxel fault) = codes "refused: voxel " ++ voxel_fault_of fault ++ codes "\n"
 line_of (Cut k) = codes "refused: cut " ++ decimal k ++ codes "\n"
 line_of (BadCheckpoint fault) = codes "refused: checkpoint " ++ checkpoint_fault_of fault ++ codes "\n"
 line_of (Past at to) = codes "refused: checkpoint step " ++ decimal at ++ codes " is past " ++ decimal to ++ codes "\n"

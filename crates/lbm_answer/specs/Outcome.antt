@@ -1,5 +1,5 @@
 -- What a request comes to, over files whose bytes are known. No pattern, worker or piece is known here.
-use Rattle.std.specs.Prelude.{◌≡◌, ◌⊎◌, ℕ, zero, suc, ◌-◌, List, [], ◌∷◌, length, Bool, true, false, ◌&&◌, nat_le, nat_lt, slice_index, Option, Some, None, Result, Ok, Err}
+use Rattle.std.specs.Prelude.{◌≡◌, ◌⊎◌, ℕ, zero, suc, ◌-◌, List, [], ◌∷◌, ◌++◌, length, Bool, true, false, ◌&&◌, nat_le, nat_lt, slice_index, Option, Some, None, Result, Ok, Err}
 use Rattle.std.specs.Option.{ForSome}
 use Rattle.sha2.specs.Sha256.{sha256}
 use Rattle.lbm_space.specs.Torus.{Torus, rows}
@@ -16,10 +16,13 @@ use Rattle.lbm_ckpt.specs.declared.fault.CkptFault.{CkptFault}
 use Rattle.lbm_ckpt.specs.Ckpt.{ckpt, ckpt_size, checkpoint_of}
 use Rattle.lbm_vtk.specs.declared.Format.{Format}
 use Rattle.lbm_vtk.specs.Vtk.{vtk}
-use Rattle.lbm_words.specs.Request.{Request, Run, Demo, run, check, demo}
+use Rattle.lbm_voxel.specs.declared.fault.VoxelFault.{VoxelFault}
+use Rattle.lbm_voxel.specs.Voxels.{voxels_of}
+use Rattle.lbm_words.specs.Request.{Request, Run, Demo, run, check, demo, voxels}
 use Rattle.lbm_answer.specs.declared.answer.End.{End}
-use Rattle.lbm_answer.specs.declared.answer.End.TheVariants.{Case, TooLong, Cut, Checkpoint as BadCheckpoint, Past, Range}
-use Rattle.lbm_answer.specs.declared.answer.File.TheVariants.{CaseFile, Checkpoint}
+use Rattle.lbm_answer.specs.declared.answer.End.TheVariants.{Usage, Case, TooLong, Voxel as BadVoxel, Cut, Checkpoint as BadCheckpoint, Past, Range}
+use Rattle.lbm_answer.specs.declared.answer.File.{File}
+use Rattle.lbm_answer.specs.declared.answer.File.TheVariants.{CaseFile, Voxel, Checkpoint}
 use Rattle.lbm_answer.specs.declared.report.Report.{Report}
 use Rattle.lbm_answer.specs.Gen.{gen}
 use Rattle.lbm_answer.specs.Reports.{printed_moments, run_report, check_report}
@@ -34,8 +37,9 @@ pub record Finished : Type 0 where
   pub files : List Written
   pub report : Report
 
--- a run: the bytes of its case, and what is asked of it
+-- a run: its case, the bytes of the files that tell it, and what is asked of it
 pub record Job : Type 0 where
+  pub case : FlowCase
   pub bytes : List ℕ
   pub steps : ℕ
   pub out : List ℕ
@@ -46,27 +50,65 @@ pub record Job : Type 0 where
 
 -- ---- the case
 
--- the greatest length of a case file, in bytes
+-- the greatest lengths of a case file and of a voxel file, in bytes
 abbrev pub case_limit : ℕ
 case_limit = 33554432
+
+abbrev pub voxel_limit : ℕ
+voxel_limit = 268435456
+
+-- the bytes of a file of some use, of which there are at most so many
+abbrev pub bytes_within : File → ℕ → List ℕ → Files → Result (List ℕ) End
+bytes_within kind limit name files = do
+  short ← demand (nat_le (length (content files name)) limit) (TooLong kind)
+  Ok (content files name)
 
 -- the case that bytes spell
 abbrev pub spelled : Result FlowCase CaseFault → Result FlowCase End
 spelled (Ok case) = Ok case
 spelled (Err fault) = Err (Case fault)
 
--- the bytes of a case file
-abbrev pub case_bytes : List ℕ → Files → Result (List ℕ) End
-case_bytes name files = do
-  short ← demand (nat_le (length (content files name)) case_limit) (TooLong CaseFile)
-  Ok (content files name)
+-- the bytes of a case file, and the case that they spell
+unfoldable pub case_read : List ℕ → Files → Result (List ℕ × FlowCase) End
+case_read name files = do
+  bytes ← bytes_within CaseFile case_limit name files
+  case ← spelled (case_of bytes)
+  Ok (bytes, case)
 
--- the run that is asked for, over the bytes of its case
-abbrev pub run_job : Run → List ℕ → Job
-run_job r bytes = record { bytes = bytes; steps = r.steps; out = r.out; cut = r.choice.cut; resume = r.resume; save = r.save; format = r.format }
+-- the case that a voxel file makes of another
+abbrev pub made : Result FlowCase VoxelFault → Result FlowCase End
+made (Ok case) = Ok case
+made (Err fault) = Err (BadVoxel fault)
 
-abbrev pub demo_job : Demo → Job
-demo_job d = record { bytes = gen d.n; steps = d.steps; out = d.out; cut = d.choice.cut; resume = None; save = d.save; format = d.format }
+-- the bytes of a voxel file, and the case that they make of another
+unfoldable pub voxels_read : List ℕ → FlowCase → Files → Result (List ℕ × FlowCase) End
+voxels_read name case files = do
+  bytes ← bytes_within Voxel voxel_limit name files
+  shaped ← made (voxels_of bytes case)
+  Ok (bytes, shaped)
+
+-- ---- the run that is asked for
+
+abbrev pub run_job : Run → FlowCase → List ℕ → Job
+run_job r case bytes = record { case = case; bytes = bytes; steps = r.steps; out = r.out; cut = r.choice.cut; resume = r.resume; save = r.save; format = r.format }
+
+abbrev pub demo_job : Demo → FlowCase → Job
+demo_job d case = record { case = case; bytes = gen d.n; steps = d.steps; out = d.out; cut = d.choice.cut; resume = None; save = d.save; format = d.format }
+
+-- The run of a request, where its case is not refused. In the geometry of a voxel file it is told by the bytes of the case
+-- file and then by those of the voxel file. A check asks for none.
+unfoldable pub job_of : Request → Files → Result Job End
+job_of (run r) files = do
+  read ← case_read r.case files
+  Ok (run_job r read.1 read.0)
+job_of (check c) files = Err Usage
+job_of (demo d) files = do
+  case ← spelled (case_of (gen d.n))
+  Ok (demo_job d case)
+job_of (voxels v) files = do
+  read ← case_read v.run.case files
+  shape ← voxels_read v.file read.1 files
+  Ok (run_job v.run shape.1 (read.0 ++ shape.0))
 
 -- ---- the cutting
 
@@ -83,12 +125,9 @@ abbrev pub uncut : Option ℕ → Result (Unit {0}) End
 uncut None = Ok tt
 uncut (Some k) = Err (Cut k)
 
--- the case of a run, where neither it nor its cutting is refused
-unfoldable pub admitted : Job → Result FlowCase End
-admitted job = do
-  case ← spelled (case_of job.bytes)
-  whole ← uncut (bad_cut case.torus job.cut)
-  Ok case
+-- the cutting of a run is not refused
+abbrev pub admitted : Job → Result (Unit {0}) End
+admitted job = uncut (bad_cut job.case.torus job.cut)
 
 -- ---- where a run begins
 
@@ -102,20 +141,20 @@ saved (Ok found) = Ok (record { state = found.1; time = found.0 })
 saved (Err fault) = Err (BadCheckpoint fault)
 
 -- the beginning in a checkpoint of these bytes
-unfoldable pub resumed : Job → FlowCase → List ℕ → Result Beginning End
-resumed job case bytes = do
-  short ← demand (nat_le (length bytes) (ckpt_size case.torus case.stencil.directions)) (TooLong Checkpoint)
-  begin ← saved (checkpoint_of (sha256 job.bytes) case.torus case.stencil.directions bytes)
+unfoldable pub resumed : Job → List ℕ → Result Beginning End
+resumed job bytes = do
+  short ← demand (nat_le (length bytes) (ckpt_size job.case.torus job.case.stencil.directions)) (TooLong Checkpoint)
+  begin ← saved (checkpoint_of (sha256 job.bytes) job.case.torus job.case.stencil.directions bytes)
   ahead ← demand (nat_le begin.time job.steps) (Past begin.time job.steps)
   Ok begin
 
 -- the first state, or that of a checkpoint, which is taken as it is
-abbrev pub begun_at : Job → Files → FlowCase → Option (List ℕ) → Result Beginning End
-begun_at job files case None = Ok (record { state = first case; time = 0 })
-begun_at job files case (Some name) = resumed job case (content files name)
+abbrev pub begun_at : Job → Files → Option (List ℕ) → Result Beginning End
+begun_at job files None = Ok (record { state = first job.case; time = 0 })
+begun_at job files (Some name) = resumed job (content files name)
 
-abbrev pub begun : Job → Files → FlowCase → Result Beginning End
-begun job files case = begun_at job files case job.resume
+abbrev pub begun : Job → Files → Result Beginning End
+begun job files = begun_at job files job.resume
 
 -- ---- how it ends
 
@@ -124,21 +163,21 @@ abbrev pub vtk_of : FlowCase → ℕ → FlowState → Format → List ℕ
 vtk_of case step s format = vtk case.torus step (printed_moments case s) format
 
 -- the checkpoint of a state, where one is asked for
-abbrev pub saved_files : Job → FlowCase → FlowState → Option (List ℕ) → List Written
-saved_files job case s None = []
-saved_files job case s (Some name) = record { name = name; bytes = ckpt (sha256 job.bytes) job.steps case.torus s } ∷ []
+abbrev pub saved_files : Job → FlowState → Option (List ℕ) → List Written
+saved_files job s None = []
+saved_files job s (Some name) = record { name = name; bytes = ckpt (sha256 job.bytes) job.steps job.case.torus s } ∷ []
 
 -- what a state leaves that the run has reached
-abbrev pub finished : Job → FlowCase → FlowState → Finished
-finished job case s = record {
-  files = record { name = job.out; bytes = vtk_of case job.steps s job.format } ∷ saved_files job case s job.save;
-  report = run_report case job.steps s;
+abbrev pub finished : Job → FlowState → Finished
+finished job s = record {
+  files = record { name = job.out; bytes = vtk_of job.case job.steps s job.format } ∷ saved_files job s job.save;
+  report = run_report job.case job.steps s;
 }
 
 -- what the end of a run comes to
-abbrev pub concluded : Job → FlowCase → RunEnd → Result Finished End
-concluded job case (reached s) = Ok (finished job case s)
-concluded job case (range step cell) = Err (Range step cell)
+abbrev pub concluded : Job → RunEnd → Result Finished End
+concluded job (reached s) = Ok (finished job s)
+concluded job (range step cell) = Err (Range step cell)
 
 -- the run from there to the last step
 abbrev pub run_from : FlowCase → ℕ → Beginning → RunEnd
@@ -147,9 +186,9 @@ run_from case steps begin = flow_run case begin.state begin.time (steps - begin.
 -- what a run comes to
 unfoldable pub job_outcome : Job → Files → Result Finished End
 job_outcome job files = do
-  case ← admitted job
-  begin ← begun job files case
-  concluded job case (run_from case job.steps begin)
+  whole ← admitted job
+  begin ← begun job files
+  concluded job (run_from job.case job.steps begin)
 
 -- what a check comes to
 abbrev pub checked : FlowCase → Finished
@@ -157,14 +196,12 @@ checked case = record { files = []; report = check_report case }
 
 -- The first refusal that applies, or what is left.
 unfoldable pub outcome : Request → Files → Result Finished End
-outcome (run r) files = do
-  bytes ← case_bytes r.case files
-  job_outcome (run_job r bytes) files
 outcome (check c) files = do
-  bytes ← case_bytes c.case files
-  case ← spelled (case_of bytes)
-  Ok (checked case)
-outcome (demo d) files = job_outcome (demo_job d) files
+  read ← case_read c.case files
+  Ok (checked read.1)
+outcome request files = do
+  job ← job_of request files
+  job_outcome job files
 
 -- ---- the files
 

@@ -2,11 +2,12 @@
 ghost use Rattle.std.specs.Prelude.{◌≡◌};
 ghost use Rattle.lbm_answer.specs.declared.answer.End.TheVariants.{Memory};
 ghost use Rattle.lbm_answer.specs.Lines.{status_of};
-ghost use Rattle.lbm_answer.specs.Causes.{case_end, checkpoint_end, cut_end, words_end};
+ghost use Rattle.lbm_answer.specs.Causes.{case_end, checkpoint_end, cut_end, voxel_end, words_end};
 
 use lbm_case::{CaseEnd, CaseFault};
 use lbm_ckpt::{CkptEnd, CkptFault};
 use lbm_space::{CutEnd, Memory};
+use lbm_voxel::{VoxelEnd, VoxelFault};
 use lbm_words::WordsEnd;
 use std::alloc::AllocError;
 
@@ -15,6 +16,8 @@ use std::alloc::AllocError;
 pub enum File {
     /// The file with the case.
     CaseFile,
+    /// The voxel file that the case takes its geometry from.
+    Voxel,
     /// The checkpoint that a run begins with.
     Checkpoint,
     /// The file that densities and momenta are written to.
@@ -34,6 +37,8 @@ pub enum End {
     Case(CaseFault),
     /// This file is longer than it may be.
     TooLong(File),
+    /// The voxel file is refused.
+    Voxel(VoxelFault),
     /// This entry of `--cut`, counted from 0, is the first that is not above the one before it, or is no row.
     Cut(u32),
     /// The checkpoint is refused.
@@ -73,6 +78,17 @@ impl From<CaseEnd> for End {
         match why {
             CaseEnd::Fault(fault) => End::Case(fault),
             CaseEnd::Memory => End::Memory,
+        }
+    }
+}
+
+impl From<VoxelEnd> for End {
+    ghost from_gives = { λ why e. e ≡ voxel_end why };
+
+    fn from(why: VoxelEnd) -> Self {
+        match why {
+            VoxelEnd::Fault(fault) => End::Voxel(fault),
+            VoxelEnd::Memory => End::Memory,
         }
     }
 }
@@ -118,7 +134,7 @@ impl End {
         match self {
             End::Done => 0,
             End::Usage => 2,
-            End::Case(_) | End::TooLong(_) | End::Cut(_) => 3,
+            End::Case(_) | End::TooLong(_) | End::Voxel(_) | End::Cut(_) => 3,
             End::Checkpoint(_) | End::Past { .. } => 4,
             End::Range { .. } => 5,
             End::StoreFault(_) | End::SinkFault => 6,

@@ -1,12 +1,11 @@
 // Where a run begins.
-ghost use Rattle.std.specs.Prelude.{◌≡◌, ◌≤◌, IfOk, None, Some};
+ghost use Rattle.std.specs.Prelude.{◌≡◌, ◌≤◌, ◌++◌, IfOk, Some};
 ghost use Rattle.sha2.specs.Sha256.{sha256};
 ghost use Rattle.lbm_model.specs.Flow.{first};
 ghost use Rattle.lbm_model.specs.Small.{IsNarrow};
-ghost use Rattle.lbm_answer.specs.Files.{ReadsCheckpoint};
-ghost use Rattle.lbm_answer.specs.Jobs.{Begins, job_view};
+ghost use Rattle.lbm_answer.specs.Jobs.{Begins, job_bytes, job_view};
 
-use crate::files::{ReadEnd, read_file};
+use crate::files::bytes_within;
 use crate::{End, File, Job};
 use lbm_ckpt::{checkpoint_size, read_checkpoint};
 use lbm_model::{Case, State, at_set, first_state};
@@ -33,7 +32,7 @@ pub fn begin<T: Store>(
     case: &Case,
 ) -> Result<Beginning, End>
     requires few { job.now.steps ≤ 1000000 }
-    ensures begun { Begins (job_view job.now) case.now (T.state store.old) (T.state store.new) result }
+    ensures begun { Begins (job_view case.now job.now) (T.state store.old) (T.state store.new) result }
     ensures files { (T.state store.new).files ≡ (T.state store.old).files }
     ensures write_faults { (T.state store.new).write_faults ≡ (T.state store.old).write_faults }
 {
@@ -63,14 +62,15 @@ fn resume<T: Store>(
     name: &str,
 ) -> Result<Beginning, End>
     requires few { job.now.steps ≤ 1000000 }
-    requires named { (job_view job.now).resume ≡ Some name.now }
-    ensures begun { Begins (job_view job.now) case.now (T.state store.old) (T.state store.new) result }
+    requires named { (job_view case.now job.now).resume ≡ Some name.now }
+    ensures begun { Begins (job_view case.now job.now) (T.state store.old) (T.state store.new) result }
     ensures files { (T.state store.new).files ≡ (T.state store.old).files }
     ensures write_faults { (T.state store.new).write_faults ≡ (T.state store.old).write_faults }
 {
     let q = case.set().directions();
-    let bytes = checkpoint_bytes(alloc, store, name, checkpoint_size(case.space(), q))?;
-    let digest = digest_of(job.bytes);
+    let limit = checkpoint_size(case.space(), q) as usize;
+    let bytes = bytes_within(alloc, store, name, File::Checkpoint, limit)?;
+    let digest = digest_of(job);
     let (time, state) = read_checkpoint(alloc, &bytes, &digest, case.space(), q)?;
     let to = u64::from(job.steps);
     if time > to {
@@ -79,28 +79,22 @@ fn resume<T: Store>(
     Ok(Beginning { state, time })
 }
 
-// The bytes of a checkpoint of at most `limit`.
-fn checkpoint_bytes<T: Store>(
-    alloc: Global,
-    store: &mut T,
-    name: &str,
-    limit: u64,
-) -> Result<Vec<u8>, End>
-    ensures read { ReadsCheckpoint (T.state store.old) (T.state store.new) name.now limit result }
-    ensures files { (T.state store.new).files ≡ (T.state store.old).files }
-    ensures write_faults { (T.state store.new).write_faults ≡ (T.state store.old).write_faults }
+/// The SHA-256 of the bytes that tell a run's case.
+pub(crate) fn digest_of(job: &Job<'_, '_>) -> [u8; 32]
+    ensures { result ≡ sha256 (job_bytes job.now) }
 {
-    match read_file(alloc, store, name, limit as usize) {
-        Ok(bytes) => Ok(bytes),
-        Err(ReadEnd::TooLong) => Err(End::TooLong(File::Checkpoint)),
-        Err(ReadEnd::Failed) => Err(End::StoreFault(File::Checkpoint)),
-        Err(ReadEnd::Memory) => Err(End::Memory),
+    match job.voxels {
+        Some(voxels) => digest_of_both(job.bytes, voxels),
+        None => Sha256::digest(job.bytes),
     }
 }
 
-/// The SHA-256 of bytes.
-pub(crate) fn digest_of(bytes: &[u8]) -> [u8; 32]
-    ensures { result ≡ sha256 bytes.now }
+// The SHA-256 of bytes and of more behind them.
+fn digest_of_both(bytes: &[u8], more: &[u8]) -> [u8; 32]
+    ensures { result ≡ sha256 (bytes.now ++ more.now) }
 {
-    Sha256::digest(bytes)
+    let mut hasher = Sha256::new();
+    hasher.update(bytes);
+    hasher.update(more);
+    hasher.finalize()
 }

@@ -7,10 +7,9 @@ ghost use Rattle.lbm_answer.specs.Reports.{check_report, solid_below};
 ghost use Rattle.lbm_answer.specs.declared.report.Report.TheVariants as Report;
 
 use crate::beginning::first_of;
-use crate::files::case_bytes;
+use crate::files::read_case_file;
 use crate::sums::mass;
 use crate::{CheckReport, End, Report};
-use lbm_case::read_case;
 use lbm_model::Case;
 use lbm_space::Memory;
 use lbm_store::Store;
@@ -26,8 +25,7 @@ pub fn decide_check<T: Store>(
 ) -> Result<Report, End>
     ensures { DecidesFor (asked_of (check (check_view request.entry))) (T.state store.old) (T.state store.new) result }
 {
-    let bytes = case_bytes(alloc, store, request.case)?;
-    let case = read_case(alloc, &bytes)?;
+    let (_, case) = read_case_file(alloc, store, request.case)?;
     Ok(Report::Check(report_of(alloc, &case)?))
 }
 

@@ -8,11 +8,13 @@ use lbm_vtk::Format;
 use lbm_words::Choice;
 use std::alloc::Global;
 
-/// A run that is asked for: the bytes of its case, and what the words say of it.
+/// A run that is asked for: the bytes that tell its case, and what the words say of it.
 #[derive(Drop)]
 pub struct Job<'b, 'w> {
     /// The bytes of its case file.
     pub bytes: &'b [u8],
+    /// The bytes of the voxel file that its case takes its geometry from, where there is one.
+    pub voxels: Option<&'b [u8]>,
     /// The last step.
     pub steps: u32,
     /// The name of the file of densities and momenta.

@@ -7,7 +7,7 @@ use crate::measures::moments;
 use crate::state::state_of;
 use crate::sums::{mass, total_momentum};
 use lbm_cell::Moment;
-use lbm_model::{Pattern, State};
+use lbm_model::{Lattice, State};
 use lbm_space::{Memory, Space};
 use std::alloc::Global;
 use std::marker::Sync;
@@ -27,7 +27,7 @@ pub struct Left {
 }
 
 /// What a pattern leaves, by the state that it stands for. It is not spent.
-pub fn conclude<P: Pattern, R: Threads + Sync>(
+pub fn conclude<P: Lattice, R: Threads + Sync>(
     rt: &R,
     alloc: Global,
     pattern: &P,

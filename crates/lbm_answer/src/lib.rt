@@ -22,7 +22,7 @@ mod telling;
 pub use answer::{End, File};
 pub use beginning::{Beginning, begin};
 pub use check::decide_check;
-pub use files::case_bytes;
+pub use files::{read_case_file, read_voxel_file};
 pub use generated::gen_case;
 pub use job::{Job, cutting_of};
 pub use left::{Left, conclude};

@@ -4,7 +4,7 @@ ghost use Rattle.arrayvec.specs.ArrayString.{array_string_len};
 ghost use Rattle.lbm_answer.specs.declared.report.Report.TheVariants as Report;
 ghost use Rattle.lbm_answer.specs.Lines.{checkpoint_fault_of, file_word, line_of, report_line};
 
-use crate::refusals::case_line;
+use crate::refusals::{case_line, voxel_line};
 use crate::{CheckReport, End, File, Report, RunReport};
 use arrayvec::ArrayString;
 use itoa::{Buffer, Integer};
@@ -61,6 +61,7 @@ pub(crate) fn line_of(end: &End) -> Line
         End::Usage => line_with("refused: usage\n"),
         End::Case(fault) => case_line(fault),
         End::TooLong(file) => line_of_three("refused: ", word_of(*file), " too long\n"),
+        End::Voxel(fault) => voxel_line(*fault),
         End::Cut(k) => cut_line(*k),
         End::Checkpoint(fault) => {
             line_of_three("refused: checkpoint ", checkpoint_word(*fault), "\n")
@@ -79,6 +80,7 @@ fn word_of(file: File) -> &'static str
 {
     match file {
         File::CaseFile => "case",
+        File::Voxel => "voxel",
         File::Checkpoint => "checkpoint",
         File::Out => "out",
         File::Save => "save",

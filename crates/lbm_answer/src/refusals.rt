@@ -1,12 +1,13 @@
-// The lines of refused case files.
+// The lines of refused case files and voxel files.
 ghost use Rattle.std.specs.Prelude.{◌≡◌, ◌+◌, ◌<◌, ◌≤◌, ◌++◌, length, codes};
 ghost use Rattle.arrayvec.specs.ArrayString.{array_string_len};
 ghost use Rattle.lbm_case.specs.Keys.{name_of};
-ghost use Rattle.lbm_answer.specs.declared.answer.End.TheVariants.{Case};
+ghost use Rattle.lbm_answer.specs.declared.answer.End.TheVariants.{Case, Voxel as BadVoxel};
 ghost use Rattle.lbm_answer.specs.Lines.{line_of, fault_of, printed, printed_byte};
 
 use crate::lines::{Line, put_number};
 use lbm_case::{CaseFault, Key};
+use lbm_voxel::VoxelFault;
 
 /// How many bytes of a name that is no key are printed.
 const PRINTED: usize = 40;
@@ -18,6 +19,23 @@ pub(crate) fn case_line(fault: &CaseFault) -> Line
     let mut line = Line::new();
     line.push_str("refused: ");
     put_fault(&mut line, fault);
+    line.push_str("\n");
+    line
+}
+
+/// The line of a refused voxel file.
+pub(crate) fn voxel_line(fault: VoxelFault) -> Line
+    ensures { result.bytes ≡ line_of (BadVoxel fault) }
+{
+    let mut line = Line::new();
+    line.push_str("refused: voxel ");
+    match fault {
+        VoxelFault::Head(k) => put_number(&mut line, "head ", k),
+        VoxelFault::Word(n) => put_number(&mut line, "word ", n),
+        VoxelFault::Sides => line.push_str("sides"),
+        VoxelFault::Count => line.push_str("count"),
+        VoxelFault::Value(k) => put_number(&mut line, "value ", k),
+    }
     line.push_str("\n");
     line
 }

@@ -1,12 +1,12 @@
 // The files that a run writes.
-ghost use Rattle.std.specs.Prelude.{◌≡◌};
+ghost use Rattle.std.specs.Prelude.{◌≡◌, option_map};
 ghost use Rattle.sha2.specs.Sha256.{sha256};
 ghost use Rattle.lbm_space.specs.Torus.{cells};
 ghost use Rattle.lbm_ckpt.specs.Ckpt.{ckpt};
 ghost use Rattle.lbm_vtk.specs.Vtk.{vtk, FitsInts};
 ghost use Rattle.lbm_store.specs.Sinks.{WritesFile};
 ghost use Rattle.lbm_answer.specs.declared.answer.File.TheVariants as File;
-ghost use Rattle.lbm_answer.specs.Jobs.{SavesAll, SavesFile, job_view, left_files, IsLeft};
+ghost use Rattle.lbm_answer.specs.Jobs.{SavesAll, SavesFile, job_bytes, files_left, IsLeft};
 
 use crate::beginning::digest_of;
 use crate::{End, File, Job, Left};
@@ -18,7 +18,7 @@ use lbm_vtk::{Format, write_vtk};
 /// the one that it names are whole, and that one holds its old bytes or a front of its new ones.
 pub fn save_all<T: Store>(store: &mut T, job: &Job<'_, '_>, left: &Left) -> Result<(), End>
     requires { IsLeft left.now }
-    ensures saved { SavesAll (left_files (job_view job.now) left.now) (T.state store.old) (T.state store.new) result }
+    ensures saved { SavesAll (files_left (job_bytes job.now) job.now.out.now (option_map (λ name. name.now) job.now.save) job.now.format left.now) (T.state store.old) (T.state store.new) result }
     ensures read_faults { (T.state store.new).read_faults ≡ (T.state store.old).read_faults }
 {
     save_moments(store, job.out, left, job.format)?;
@@ -69,7 +69,7 @@ fn save_state<T: Store>(
     left: &Left,
 ) -> Result<(), End>
     requires { IsLeft left.now }
-    ensures saved { SavesFile File.Save (record { name = name.now; bytes = ckpt (sha256 job.now.bytes.now) left.now.report.step left.now.space left.now.state }) (T.state store.old) (T.state store.new) result }
+    ensures saved { SavesFile File.Save (record { name = name.now; bytes = ckpt (sha256 (job_bytes job.now)) left.now.report.step left.now.space left.now.state }) (T.state store.old) (T.state store.new) result }
     ensures read_faults { (T.state store.new).read_faults ≡ (T.state store.old).read_faults }
 {
     match write_state(store, name, job, left) {
@@ -86,11 +86,11 @@ fn write_state<T: Store>(
     left: &Left,
 ) -> Result<(), IoEnd>
     requires { IsLeft left.now }
-    ensures { WritesFile (T.state store.old) (T.state store.new) result name.now (ckpt (sha256 job.now.bytes.now) left.now.report.step left.now.space left.now.state) }
+    ensures { WritesFile (T.state store.old) (T.state store.new) result name.now (ckpt (sha256 (job_bytes job.now)) left.now.report.step left.now.space left.now.state) }
 {
     store.create(name)?;
     let mut file = Named::new(store, name);
-    let digest = digest_of(job.bytes);
+    let digest = digest_of(job);
     write_checkpoint(
         &mut file,
         &digest,

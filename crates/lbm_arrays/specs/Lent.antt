@@ -1,5 +1,5 @@
 -- What contracts see of a loan.
-use Rattle.std.specs.Prelude.{ℕ, ℤ, List}
+use Rattle.std.specs.Prelude.{◌≡◌, ℕ, ◌+◌, ◌<◌, ◌≤◌, ℤ, List, [], length, slice_index, slice_index_or}
 use denote.RawPtr.{Ptr}
 
 -- where the ranges lie
@@ -15,3 +15,13 @@ pub record Lent : Type 0 where
   pub rows : ℕ × ℕ
   pub place : Place
   pub ranges : List (List ℤ)
+
+-- the slot at which the range of array k begins
+abbrev pub first_slot : Place → ℕ → ℕ
+first_slot place k = slice_index place.firsts k + place.lo
+
+-- slot `first` begins the range of array k, in which n places lie from place `at` on
+pub record IsRun (lent : Lent) (first k at n : ℕ) : Type 0 where
+  pub known : k < length lent.ranges
+  pub begins : first ≡ first_slot lent.place k
+  pub fits : at + n ≤ length (slice_index_or lent.ranges k [])

@@ -3,10 +3,10 @@
 --     k, base      the array, and the slot of its padded place 0
 --     off          an offset
 --     old, new     the region's slots before and after
-use Rattle.std.specs.Prelude.{◌≡◌, ◌≢◌, ℕ, ◌+◌, ◌<◌, ◌≤◌, List, ℤ, pos, ◌+ℤ◌}
-use Rattle.lbm_space.specs.Stencil.{Stencil, velocity}
-use Rattle.lbm_space.specs.Torus.{Torus, cells, padded}
-use Rattle.lbm_space.specs.Padded.{padded_index, place_ahead, wrap, IsPad}
+use Rattle.std.specs.Prelude.{◌≡◌, ◌≢◌, ℕ, ◌+◌, ◌<◌, ◌≤◌, List, ℤ, pos, ◌+ℤ◌, ◌-ℤ◌, ◌≤ℤ◌, ◌<ℤ◌, unsigned_abs}
+use Rattle.lbm_space.specs.Stencil.{Stencil, part, velocity}
+use Rattle.lbm_space.specs.Torus.{Torus, cells, cell_number, modulo, padded}
+use Rattle.lbm_space.specs.Padded.{padded_box, pads_below, padded_index, place_ahead, wrap, IsPad}
 use Rattle.lbm_arrays.specs.Arrays.{slot_at, held}
 
 -- the slot of a padded place
@@ -44,11 +44,40 @@ abbrev pub AreStored : Torus → Stencil → (margin base : ℕ) → (old new : 
 AreStored t v margin base old new = (k cell : ℕ) → k < v.directions → cell < cells t
     → held new (place_slot t margin k base (stand t (place_ahead t (velocity v k) cell))) ≡ held old (place_slot t margin k base (place_ahead t (velocity v k) cell))
 
--- the same for the pads from place lo up to, not including, hi
-pub record IsLoadedIn (t : Torus) (margin k base lo hi : ℕ) (old new : List ℤ) : Type 0 where
-  pub pads : (p : ℕ) → lo ≤ p → p < hi → IsPad t p → held new (place_slot t margin k base p) ≡ held old (place_slot t margin k base (stand t p))
-  pub others : (s : ℕ) → ((p : ℕ) → lo ≤ p → p < hi → IsPad t p → s ≢ place_slot t margin k base p) → held new s ≡ held old s
+-- a coordinate along a side, where `pads` places lie before the cells and as many behind: that of the cell for which its place stands
+abbrev pub ring : ℕ → ℕ → ℕ → ℕ
+ring pads side place = modulo (pos place -ℤ pos pads) side + pads
 
-pub record IsStoredIn (t : Torus) (margin k base : ℕ) (off : ℤ) (lo hi : ℕ) (old new : List ℤ) : Type 0 where
-  pub pads : (p : ℕ) → lo ≤ p → p < hi → IsPad t p → IsReached t off p → held new (place_slot t margin k base (stand t p)) ≡ held old (place_slot t margin k base p)
-  pub others : (s : ℕ) → ((p : ℕ) → lo ≤ p → p < hi → IsPad t p → IsReached t off p → s ≢ place_slot t margin k base (stand t p)) → held new s ≡ held old s
+-- where the line of the padded places of one y and one z starts
+abbrev pub line_start : Torus → ℕ → ℕ → ℕ
+line_start t y z = cell_number (padded_box t) 0 y z
+
+-- and where the line starts for whose cells it stands
+abbrev pub stand_start : Torus → ℕ → ℕ → ℕ
+stand_start t y z = line_start t (ring 1 t.ny y) (ring (pads_below t) t.nz z)
+
+-- a step of c leads to the coordinate from that of a cell
+pub record IsLed (pads side : ℕ) (c : ℤ) (place : ℕ) : Type 0 where
+  pub low : pos pads ≤ℤ (pos place -ℤ c)
+  pub high : (pos place -ℤ c) <ℤ pos (pads + side)
+
+-- a velocity that leads from each cell to a padded place: its parts are -1, 0 or 1, and it stays in a plane
+pub record IsUnitVelocity (t : Torus) (c : List ℤ) : Type 0 where
+  pub unit : (a : ℕ) → a < 3 → unsigned_abs (part c a) ≤ 1
+  pub flat : t.dimension ≡ 2 → part c 2 ≡ pos 0
+
+-- the n slots from `to` on have what those from `from` on had
+pub record IsCopied (from to n : ℕ) (old new : List ℤ) : Type 0 where
+  pub run : (j : ℕ) → j < n → held new (to + j) ≡ held old (from + j)
+  pub before : (s : ℕ) → s < to → held new s ≡ held old s
+  pub behind : (s : ℕ) → to + n ≤ s → held new s ≡ held old s
+
+-- Of the slots of one array's padded places alone: the pads from place lo up to, not including, hi have what the places had for which they stand.
+pub record IsLoadedIn (t : Torus) (lo hi : ℕ) (old new : List ℤ) : Type 0 where
+  pub pads : (p : ℕ) → lo ≤ p → p < hi → IsPad t p → held new p ≡ held old (stand t p)
+  pub others : (p : ℕ) → (lo ≤ p → p < hi → IsPad t p → ⊥) → held new p ≡ held old p
+
+-- and what they stand for has what those of them had that are an interior place plus the offset
+pub record IsStoredIn (t : Torus) (off : ℤ) (lo hi : ℕ) (old new : List ℤ) : Type 0 where
+  pub pads : (p : ℕ) → lo ≤ p → p < hi → IsPad t p → IsReached t off p → held new (stand t p) ≡ held old p
+  pub others : (s : ℕ) → ((p : ℕ) → lo ≤ p → p < hi → IsPad t p → IsReached t off p → s ≢ stand t p) → held new s ≡ held old s

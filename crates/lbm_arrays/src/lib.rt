@@ -5,6 +5,8 @@
 //! it (`shifts`), and runs its work on all loans at once (`fork`); then it stores the pads that it has written.
 #![tactic(auto)]
 
+mod crew;
+mod either;
 mod halves;
 pub mod laws;
 mod loan;
@@ -14,6 +16,8 @@ mod slabs;
 mod steps;
 mod work;
 
+pub use crew::{Forks, Hands, Lending, Pass, Viewed, fork_by};
+pub use either::{Either, ForFirst, ForSecond};
 pub use loan::Loan;
 pub use region::Region;
 pub use slabs::{Shifts, fork};

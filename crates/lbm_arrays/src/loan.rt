@@ -32,6 +32,7 @@ impl<'a> Model for Loan<'a> {
 }
 
 impl Loan<'_> {
+    ghost use Rattle.lbm_arrays.specs.Lent.{first_slot, IsRun};
     ghost use Rattle.lbm_arrays.specs.Ranges.{with_run};
 
     /// The first row of the slab, and the row past its end.
@@ -39,6 +40,47 @@ impl Loan<'_> {
         ensures { result ≡ self.now.rows }
     {
         self.rows
+    }
+
+    /// The slot at which the range of array `dir` begins.
+    #[inline(always)]
+    pub fn first_slot(&self, dir: u32) -> usize
+        requires { dir < length self.now.ranges }
+        ensures { result ≡ first_slot self.now.place dir }
+    {
+        self.firsts[dir as usize] + self.lo
+    }
+
+    /// The `n` slots, 1 to 8, from place `at` of the range that begins at slot `first`. The other lanes are 0.
+    #[inline(always)]
+    pub fn load_at(&self, first: usize, at: u32, n: u32) -> [i64; 8]
+        requires some { 1 ≤ n }
+        requires few { n ≤ 8 }
+        requires run { (k : ℕ) × IsRun self.now first k at n }
+        ensures slots { (k j : ℕ) → IsRun self.now first k at n → j < n → slice_index_or result j (pos 0) ≡ slice_index_or (slice_index_or self.now.ranges k []) (at + j) (pos 0) }
+        ensures others { (j : ℕ) → n ≤ j → slice_index_or result j (pos 0) ≡ pos 0 }
+    {
+        if n == 8 {
+            return read_block(&self.patch, first + at as usize);
+        }
+        read_run(&self.patch, first + at as usize, n as usize)
+    }
+
+    /// Writes the first `n` lanes, 1 to 8, to the range that begins at slot `first`, from place `at` on.
+    #[inline(always)]
+    pub fn store_at(&mut self, first: usize, at: u32, n: u32, v: [i64; 8])
+        requires some { 1 ≤ n }
+        requires few { n ≤ 8 }
+        requires run { (k : ℕ) × IsRun self.old first k at n }
+        ensures ranges { (k : ℕ) → IsRun self.old first k at n → self.new.ranges ≡ with_run self.old.ranges k at (take n v) }
+        ensures rows { self.new.rows ≡ self.old.rows }
+        ensures place { self.new.place ≡ self.old.place }
+    {
+        if n == 8 {
+            write_block(&mut self.patch, first + at as usize, v);
+        } else {
+            write_run(&mut self.patch, first + at as usize, n as usize, v);
+        }
     }
 
     /// The `n` slots, 1 to 8, from place `at` of the range of array `dir`. The other lanes are 0.
@@ -50,11 +92,7 @@ impl Loan<'_> {
         ensures slots { (j : ℕ) → j < n → slice_index_or result j (pos 0) ≡ slice_index_or (slice_index_or self.now.ranges dir []) (at + j) (pos 0) }
         ensures others { (j : ℕ) → n ≤ j → slice_index_or result j (pos 0) ≡ pos 0 }
     {
-        let first = self.firsts[dir as usize] + self.lo + at as usize;
-        if n == 8 {
-            return read_block(&self.patch, first);
-        }
-        read_run(&self.patch, first, n as usize)
+        self.load_at(self.first_slot(dir), at, n)
     }
 
     /// Writes the first `n` lanes, 1 to 8, to the range of array `dir`, from place `at` on.
@@ -67,16 +105,13 @@ impl Loan<'_> {
         ensures rows { self.new.rows ≡ self.old.rows }
         ensures place { self.new.place ≡ self.old.place }
     {
-        let first = self.firsts[dir as usize] + self.lo + at as usize;
-        if n == 8 {
-            write_block(&mut self.patch, first, v);
-        } else {
-            write_run(&mut self.patch, first, n as usize, v);
-        }
+        let first = self.first_slot(dir);
+        self.store_at(first, at, n, v);
     }
 }
 
 // The eight slots from `first` on.
+#[inline(always)]
 fn read_block(patch: &Patch<i64>, first: usize) -> [i64; 8]
     requires { (j : ℕ) → j < 8 → (first + j < patch.now.len) × IsTrue (slice_index_or patch.now.mine (first + j) false) }
     ensures { (j : ℕ) → j < 8 → slice_index_or result j (pos 0) ≡ slice_index_or patch.now.items (first + j) (pos 0) }
@@ -108,6 +143,7 @@ fn read_run(patch: &Patch<i64>, first: usize, n: usize) -> [i64; 8]
 }
 
 // Writes the eight slots from `first` on.
+#[inline(always)]
 fn write_block(patch: &mut Patch<i64>, first: usize, v: [i64; 8])
     requires { (j : ℕ) → j < 8 → (first + j < patch.old.len) × IsTrue (slice_index_or patch.old.mine (first + j) false) }
     ensures items { patch.new.items ≡ over patch.old.items first (take 8 v) }

@@ -5,15 +5,14 @@ ghost use Rattle.arrayvec.specs.ArrayVec.{array_vec_len};
 ghost use Rattle.lbm_space.specs.Sum.{list_below};
 ghost use Rattle.lbm_space.specs.Torus.{IsSpace, padded, rows as row_count};
 ghost use Rattle.lbm_space.specs.Cuttings.{slabs_of, rows_of};
-ghost use Rattle.lbm_arrays.specs.Arrays.{IsRegion, held, array_size};
+ghost use Rattle.lbm_arrays.specs.Arrays.{held, array_size};
 ghost use Rattle.lbm_arrays.specs.LentRanges.{range_start, lent, slab_rows, AreInside, AreLent, IsLent, IsForked};
 
+use crate::PieceWork;
 use crate::halves::{Plan, fork_slice};
-use crate::{PieceWork, Region};
 use arrayvec::ArrayVec;
 use lbm_model::Gate;
 use lbm_space::{Cutting, Space};
-use std::alloc::Allocator;
 use std::thread::Threads;
 
 /// For each array of a region, how far the ranges that are lent of it are moved, counted from its first slot.
@@ -48,41 +47,8 @@ fn moved(place: u32, shift: i64) -> usize
 /// Lends each slab of the cutting its rows of every array, moved by the array's shift, calls the gate, and runs the work
 /// once on each slab's loan: by halves, in threads of their own while there are few slabs.
 ///
-/// The answer is the least answer of the pieces. Only slots in the slabs' ranges change. The region's heap need not be
-/// one that threads may share.
-pub fn fork<A: Allocator, R: Threads + Sync, W: PieceWork, G: Gate>(
-    rt: &R,
-    region: &mut Region<A>,
-    shifts: &Shifts,
-    cut: &Cutting,
-    gate: &G,
-    work: &W,
-) -> Option<u32>
-    requires count { array_vec_len shifts.now ≡ region.old.count }
-    requires inside { AreInside region.old.space region.old.margin shifts.now.items }
-    requires cutting { rows_of cut.now ≡ row_count region.old.space }
-    requires ready { (k : ℕ) → k < slabs_of cut.now → W.ready work.now k (slab_rows cut.now k) (lent region.old.space region.old.margin shifts.now.items (slab_rows cut.now k) region.old.slots) }
-    ensures did { IsForked (W.does work.now) region.old.space region.old.margin shifts.now.items cut.now region.old.slots region.new.slots result }
-    ensures others { (s : ℕ) → ((k : ℕ) → k < length shifts.now.items → IsLent region.old.space region.old.margin shifts.now.items k 0 (row_count region.old.space) s → ⊥) → held region.new.slots s ≡ held region.old.slots s }
-    ensures same { region.new ≡ record region.old { slots = region.new.slots } }
-    ensures valid { IsRegion region.new }
-    ensures ranges { AreLent region.old.space region.old.margin shifts.now.items cut.now }
-{
-    let (space, margin) = (region.space, region.margin);
-    fork_arrays(
-        rt,
-        region.slots.as_mut_slice(),
-        &space,
-        margin,
-        shifts,
-        cut,
-        gate,
-        work,
-    )
-}
-
-// The same over the slots of a region.
-fn fork_arrays<R: Threads + Sync, W: PieceWork, G: Gate>(
+/// The answer is the least answer of the pieces. Only slots in the slabs' ranges change.
+pub fn fork<R: Threads + Sync, W: PieceWork, G: Gate>(
     rt: &R,
     slots: &mut [i64],
     space: &Space,

@@ -1,5 +1,5 @@
 -- What a run of a pattern leaves, by where it begins.
-use Rattle.std.proofs.Common.{◌≡◌, ◌∙◌, ℕ, zero, suc, ◌-◌, ◌+◌, Bool, None, Ok, ap, sym, subst, arith}
+use Rattle.std.proofs.Common.{◌≡◌, ◌∙◌, ℕ, zero, suc, ◌-◌, ◌+◌, Bool, None, Ok, Err, ap, sym, subst, arith}
 use Rattle.lbm_model.specs.Case.{FlowCase}
 use Rattle.lbm_model.specs.State.{FlowState}
 use Rattle.lbm_model.specs.Flow.{IsStateOf, run, reached}
@@ -8,7 +8,10 @@ use Rattle.lbm_model.proofs.Mass.{IsStateOf-next}
 use Rattle.lbm_answer.specs.declared.left.Left.{Left}
 use Rattle.lbm_answer.specs.Reports.{printed_moments, run_report}
 use Rattle.lbm_answer.specs.Outcome.{Beginning, run_from}
-use Rattle.lbm_answer.specs.Jobs.{CanBegin, Leaves, LeavesOf}
+use Rattle.lbm_answer.specs.Jobs.{CanBegin, Finishes, Leaves, LeavesOf}
+use Rattle.lbm_flow.specs.declared.run.RunEnd.{RunEnd}
+use Rattle.lbm_flow.specs.declared.run.RunEnd.TheVariants.{Range, Memory}
+use Rattle.lbm_flow.specs.Causes.{run_end}
 use Rattle.lbm_flow.specs.Running.{RunGives, after}
 
 -- a pattern that stands for where a run begins
@@ -40,3 +43,10 @@ leaves-from case steps begin old new wants left begins can gives leaves =
       report = leaves.report ∙ ap (λ c. run_report c new.time new.state) case_is ∙ ap (λ t. run_report case t new.state) time_is
           ∙ ap (run_report case steps) (sym leaves.state);
     }
+
+-- a run that has ended early
+pub finishes-early : (case : FlowCase) (steps : ℕ) (begin : Beginning) (old new : Standing) (wants : Bool) (end : RunEnd) → old ≡ at_beginning case begin
+    → RunGives wants old new steps (Err end) → Finishes case steps begin (Err (run_end end))
+finishes-early case steps begin old new wants (Range step cell) begins gives =
+    ap (λ (now : Standing). run now.case now.state now.time (steps - now.time)) (sym begins) ∙ gives.0
+finishes-early case steps begin old new wants Memory begins gives = tt

@@ -4,57 +4,102 @@ ghost use Rattle.lbm_space.specs.Torus.{rows as row_count};
 ghost use Rattle.lbm_space.specs.Cuttings.{rows_of};
 ghost use Rattle.lbm_answer.specs.Jobs.{CanBegin, Finishes, beginning_view};
 
+use crate::End;
 use crate::run::run_pattern;
-use crate::{End, Lattice};
+use lbm_aa::AaSteps;
 use lbm_answer::{Beginning, Left, conclude};
+use lbm_grid::GridSweeps;
+use lbm_lattice::{ArrayLattice, Propagation};
 use lbm_model::{Case, Gate, at_set};
 use lbm_space::{Cutting, VelocitySet};
+use lbm_swap::SwapPasses;
+use lbm_two::TwoLattices;
 use lbm_words::PatternKind;
 use std::alloc::{Allocator, Global};
 use std::marker::Sync;
 use std::thread::Threads;
 
-/// Runs a case from where it begins to the last step, by the pattern that is asked for, over the slabs of a cutting.
+/// What is run: a case from where it begins to the last step, over the slabs of a cutting.
+#[derive(Drop)]
+pub(crate) struct Course {
+    pub(crate) case: Case,
+    pub(crate) begin: Beginning,
+    pub(crate) cut: Cutting,
+    pub(crate) steps: u32,
+}
+
+/// Runs a case by the pattern that is asked for.
 pub(crate) fn finish<A: Allocator + Copy, G: Gate, R: Threads + Sync>(
     rt: &R,
     alloc: Global,
     heap: A,
-    case: Case,
-    begin: Beginning,
-    cut: Cutting,
+    course: Course,
     pattern: PatternKind,
-    steps: u32,
     gate: &G,
 ) -> Result<Left, End>
-    requires few { steps ≤ 1000000 }
-    requires begin { CanBegin case steps (beginning_view begin) }
-    requires cutting { rows_of cut ≡ row_count case.torus }
-    ensures { Finishes case steps (beginning_view begin) result }
+    requires few { course.steps ≤ 1000000 }
+    requires begin { CanBegin course.case course.steps (beginning_view course.begin) }
+    requires cutting { rows_of course.cut ≡ row_count course.case.torus }
+    ensures { Finishes course.case course.steps (beginning_view course.begin) result }
 {
     at_set!(
-        case.set(),
-        finish_by::<A, G, R>(rt, alloc, heap, case, begin, cut, pattern, steps, gate)
+        course.case.set(),
+        finish_by::<A, G, R>(rt, alloc, heap, course, pattern, gate)
     )
 }
 
+// The same in a velocity set.
 fn finish_by<V: VelocitySet + Sync, A: Allocator + Copy, G: Gate, R: Threads + Sync>(
     rt: &R,
     alloc: Global,
     heap: A,
-    case: Case,
-    begin: Beginning,
-    cut: Cutting,
+    course: Course,
     pattern: PatternKind,
-    steps: u32,
     gate: &G,
 ) -> Result<Left, End>
-    requires set { case.stencil ≡ V.stencil }
-    requires few { steps ≤ 1000000 }
-    requires begin { CanBegin case steps (beginning_view begin) }
-    requires cutting { rows_of cut ≡ row_count case.torus }
-    ensures { Finishes case steps (beginning_view begin) result }
+    requires set { course.case.stencil ≡ V.stencil }
+    requires few { course.steps ≤ 1000000 }
+    requires begin { CanBegin course.case course.steps (beginning_view course.begin) }
+    requires cutting { rows_of course.cut ≡ row_count course.case.torus }
+    ensures { Finishes course.case course.steps (beginning_view course.begin) result }
 {
-    let mut lattice = Lattice::<V, A>::start(heap, case, begin, cut, pattern)?;
-    run_pattern::<V, A, R, G>(rt, &mut lattice, u64::from(steps), gate)?;
-    Ok(conclude::<Lattice<V, A>, R>(rt, alloc, &lattice)?)
+    match pattern {
+        PatternKind::Two => {
+            finish_in::<V, A, TwoLattices<A>, G, R>(rt, alloc, heap, course, gate)
+        }
+        PatternKind::Swap => finish_in::<V, A, SwapPasses, G, R>(rt, alloc, heap, course, gate),
+        PatternKind::Grid => {
+            finish_in::<V, A, GridSweeps<A>, G, R>(rt, alloc, heap, course, gate)
+        }
+        // Tiles are stood in for by the pattern that works in place.
+        _ => finish_in::<V, A, AaSteps, G, R>(rt, alloc, heap, course, gate),
+    }
+}
+
+// The same by one of the patterns over arrays.
+fn finish_in<V: VelocitySet, A: Allocator + Copy, P: Propagation<V, A>, G: Gate, R: Threads + Sync>(
+    rt: &R,
+    alloc: Global,
+    heap: A,
+    course: Course,
+    gate: &G,
+) -> Result<Left, End>
+where
+    P::Work: Sync,
+    requires set { course.case.stencil ≡ V.stencil }
+    requires few { course.steps ≤ 1000000 }
+    requires begin { CanBegin course.case course.steps (beginning_view course.begin) }
+    requires cutting { rows_of course.cut ≡ row_count course.case.torus }
+    ensures { Finishes course.case course.steps (beginning_view course.begin) result }
+{
+    let Course {
+        case,
+        begin,
+        cut,
+        steps,
+    } = course;
+    let Beginning { state, time } = begin;
+    let mut lattice = ArrayLattice::<V, A, P>::start(heap, case, &state, time, cut)?;
+    run_pattern(rt, &mut lattice, u64::from(steps), gate)?;
+    Ok(conclude::<ArrayLattice<V, A, P>, R>(rt, alloc, &lattice)?)
 }

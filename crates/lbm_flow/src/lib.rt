@@ -4,12 +4,10 @@
 mod finish;
 mod in_memory;
 mod job;
-mod lattice;
 mod run;
 mod top;
 
 pub use in_memory::run_in_memory;
-pub use lattice::Lattice;
 pub use lbm_answer::{
     CheckReport, End, File, Report, RunReport, gen_case, laws, mass, moments, state_of,
 };

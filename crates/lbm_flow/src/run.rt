@@ -1,13 +1,11 @@
-// A run of a lattice.
-ghost use Rattle.std.specs.Prelude.{◌≡◌, ◌≤◌, IsNone, false};
-ghost use Rattle.lbm_flow.specs.Lattices.{standing_of};
+// A run of a pattern.
+ghost use Rattle.std.specs.Prelude.{◌≡◌, ◌≤◌, IsNone};
 ghost use Rattle.lbm_flow.specs.Causes.{run_end};
 ghost use Rattle.lbm_flow.specs.Running.{RunGives, ended};
 
-use crate::{End, Lattice};
-use lbm_model::{Gate, Pattern, StepEnd};
-use lbm_space::VelocitySet;
-use std::alloc::Allocator;
+use crate::End;
+use lbm_lattice::Pattern;
+use lbm_model::{Gate, StepEnd};
 use std::marker::Sync;
 use std::thread::Threads;
 
@@ -43,30 +41,29 @@ impl From<RunEnd> for End {
     }
 }
 
-/// Steps a lattice until its time is `steps`, which is at most 1,000,000, and tests the state that it then stands for. The
-/// lattice is not spent, and its time is at most `steps`. The gate is entered once before each piece of a step.
+/// Steps a pattern until its time is `steps`, which is at most 1,000,000, and tests the state that it then stands for. The
+/// pattern is not spent, and its time is at most `steps`. The gate is entered once before each piece of a step.
 ///
 /// `Range` names the least step, and in it the least cell, that is out of limits. Where that step is below `steps`, the
-/// lattice is spent; otherwise it stands for the state that is out of limits. `Memory` comes only from a pattern whose
-/// steps want memory (`WANTS_MEMORY`), so from none of these.
-pub fn run_pattern<V: VelocitySet + Sync, A: Allocator, R: Threads + Sync, G: Gate>(
+/// pattern is spent; otherwise it stands for the state that is out of limits. `Memory` comes only from a pattern whose
+/// steps want memory (`WANTS_MEMORY`).
+pub fn run_pattern<R: Threads + Sync, G: Gate, P: Pattern<G>>(
     rt: &R,
-    lattice: &mut Lattice<V, A>,
+    pattern: &mut P,
     steps: u64,
     gate: &G,
 ) -> Result<(), RunEnd>
-    requires unspent { IsNone (standing_of lattice.old).spent }
-    requires ahead { (standing_of lattice.old).time ≤ steps }
+    requires unspent { IsNone (P.standing pattern.old).spent }
+    requires ahead { (P.standing pattern.old).time ≤ steps }
     requires few { steps ≤ 1000000 }
-    ensures run { RunGives ⟦<Lattice<V, A> as Pattern>⟧.WANTS_MEMORY (standing_of lattice.old) (standing_of lattice.new) steps result }
-    ensures no_memory { ⟦<Lattice<V, A> as Pattern>⟧.WANTS_MEMORY ≡ false }
+    ensures { RunGives P.WANTS_MEMORY (P.standing pattern.old) (P.standing pattern.new) steps result }
 {
-    for step in lattice.time()..steps {
-        if let Err(end) = lattice.step(rt, gate) {
+    for step in pattern.time()..steps {
+        if let Err(end) = pattern.step(rt, gate) {
             return Err(RunEnd::at(step, end));
         }
     }
-    match lattice.check() {
+    match pattern.check() {
         Some(cell) => Err(RunEnd::Range { step: steps, cell }),
         None => Ok(()),
     }

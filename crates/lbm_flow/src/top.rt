@@ -1,23 +1,25 @@
 // The top call.
 ghost use Rattle.std.specs.Prelude.{◌≡◌, map, string_bytes};
-ghost use Rattle.lbm_words.specs.Request.{IsRun, IsDemo, run, demo, run_view, demo_view};
+ghost use Rattle.lbm_words.specs.Request.{IsRun, IsDemo, IsVoxels, run, demo, voxels, run_view, demo_view, voxels_view};
 ghost use Rattle.lbm_words.specs.Words.{request_of};
 ghost use Rattle.lbm_answer.specs.Answer.{Answers, Decides, DecidesFor, asked_of};
 ghost use Rattle.lbm_answer.specs.Complete.{IsComplete};
 
 use crate::job::do_job;
 use crate::{End, Report, gen_case};
-use lbm_answer::{Job, case_bytes, decide_check, tell};
+use lbm_answer::{Job, decide_check, read_case_file, read_voxel_file, tell};
+use lbm_case::read_case;
 use lbm_model::Gate;
 use lbm_store::{Sink, Store};
-use lbm_words::{Demo, Request, Run, request_of};
+use lbm_words::{Demo, Request, Run, Voxels, request_of};
 use std::alloc::{Allocator, Global};
 use std::marker::Sync;
 use std::thread::Threads;
 
 /// Does what the words after the program's name ask for, and answers: `run CASE STEPS OUT` runs the case of a file over
 /// so many steps, writes densities and momenta as a legacy VTK file, and tells the sink a line; `check CASE` tells one of
-/// the case; `demo N STEPS OUT` runs a generated case. The lattice's memory is that of `heap`. The gate is entered once
+/// the case; `demo N STEPS OUT` runs a generated case; `voxels FILE CASE STEPS OUT` runs the case of a file in the geometry
+/// of a voxel file. The lattice's memory is that of `heap`. The gate is entered once
 /// before each piece of a step.
 ///
 /// The contract says which answer comes, what it leaves in the store, and what the sink has got. It speaks of the plain
@@ -57,6 +59,7 @@ fn decide<T: Store, A: Allocator + Copy, G: Gate, R: Threads + Sync>(
         Request::Run(run) => decide_run(rt, alloc, heap, run, store, gate),
         Request::Check(check) => decide_check(alloc, check, store),
         Request::Demo(demo) => decide_demo(rt, alloc, heap, demo, store, gate),
+        Request::Voxels(voxels) => decide_voxels(rt, alloc, heap, voxels, store, gate),
     }
 }
 
@@ -80,9 +83,10 @@ fn decide_run<T: Store, A: Allocator + Copy, G: Gate, R: Threads + Sync>(
         save,
         format,
     } = request;
-    let bytes = case_bytes(alloc, store, case)?;
+    let (bytes, case) = read_case_file(alloc, store, case)?;
     let job = Job {
         bytes: &bytes,
+        voxels: None,
         steps,
         out,
         choice,
@@ -90,7 +94,7 @@ fn decide_run<T: Store, A: Allocator + Copy, G: Gate, R: Threads + Sync>(
         save,
         format,
     };
-    do_job(rt, alloc, heap, &job, store, gate)
+    do_job(rt, alloc, heap, case, &job, store, gate)
 }
 
 fn decide_demo<T: Store, A: Allocator + Copy, G: Gate, R: Threads + Sync>(
@@ -113,8 +117,10 @@ fn decide_demo<T: Store, A: Allocator + Copy, G: Gate, R: Threads + Sync>(
         format,
     } = request;
     let bytes = gen_case(alloc, n)?;
+    let case = read_case(alloc, &bytes)?;
     let job = Job {
         bytes: &bytes,
+        voxels: None,
         steps,
         out,
         choice,
@@ -122,5 +128,32 @@ fn decide_demo<T: Store, A: Allocator + Copy, G: Gate, R: Threads + Sync>(
         save,
         format,
     };
-    do_job(rt, alloc, heap, &job, store, gate)
+    do_job(rt, alloc, heap, case, &job, store, gate)
+}
+
+fn decide_voxels<T: Store, A: Allocator + Copy, G: Gate, R: Threads + Sync>(
+    rt: &R,
+    alloc: Global,
+    heap: A,
+    request: Voxels<'_>,
+    store: &mut T,
+    gate: &G,
+) -> Result<Report, End>
+    requires { IsVoxels (voxels_view request) }
+    ensures { DecidesFor (asked_of (voxels (voxels_view request.entry))) (T.state store.old) (T.state store.new) result }
+{
+    let Voxels { file, run } = request;
+    let (bytes, plain) = read_case_file(alloc, store, run.case)?;
+    let (voxels, case) = read_voxel_file(alloc, store, file, &plain)?;
+    let job = Job {
+        bytes: &bytes,
+        voxels: Some(&voxels),
+        steps: run.steps,
+        out: run.out,
+        choice: run.choice,
+        resume: run.resume,
+        save: run.save,
+        format: run.format,
+    };
+    do_job(rt, alloc, heap, case, &job, store, gate)
 }

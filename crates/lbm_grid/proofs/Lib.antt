@@ -1,5 +1,5 @@
-pub mod Blocks
 pub mod Rooms
+pub mod Runs
 pub mod Saving
 pub mod Seen
 pub mod Sweeps

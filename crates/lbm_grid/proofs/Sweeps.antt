@@ -23,7 +23,7 @@ use Rattle.lbm_arrays.proofs.Behind.{place_behind_below, stand-behind}
 use Rattle.lbm_arrays.proofs.Moves.{length-shifts}
 use Rattle.lbm_sweep.specs.Sweep.{IsCollided}
 use Rattle.lbm_sweep.specs.Regions.{range_slot, HasSlot, InEachSlab}
-use Rattle.lbm_sweep.specs.First.{IsFirst}
+use Rattle.lbm_walk.specs.First.{IsFirst}
 use Rattle.lbm_sweep.specs.Steps.{IsTaken, IsSent, IsStep, IsWritten}
 use Rattle.lbm_sweep.specs.Lattices.{IsKept, IsLaidOut}
 use Rattle.lbm_sweep.proofs.Steps.{written_is_step}
@@ -63,14 +63,14 @@ moved_is case v rises u most moved set space is_most is_moved =
     ∙ (λ i. step_shifts (space i) (sym set i) (step_of rises) (base_of rises (reach (space i) (sym set i))))
 
 -- A sweep, in the words of its call: the region, the set, the space and the rule are those of the case.
-module _ (case : FlowCase) (v : Stencil) (rises : Bool) (bounds : List ℕ) (t : Torus) (begins : List ℕ) (width : ℕ) (kept : List ℤ) (region : Arrays)
-    (valid : IsRegion region) (cutting : IsCutting bounds) (ready : AreReady case v rises bounds t begins width kept region)
+module _ (case : FlowCase) (v : Stencil) (rises : Bool) (bounds : List ℕ) (t : Torus) (space : t ≡ case.torus) (begins : List ℕ) (width : ℕ) (kept : List ℤ) (region : Arrays)
+    (valid : IsRegion region) (cutting : IsCutting bounds) (ready : AreReady case v rises bounds begins width kept region)
     (moved : List ℤ) (is_moved : moved ≡ step_shifts case.torus case.stencil (step_of rises) (base_of rises (far case))) where
   abbrev Words : Type 0
   Words = Torus × ℕ × List ℤ × Torus × Stencil
 
   said : (P : Words → Type 0) → P (case.torus, far case, step_shifts case.torus case.stencil (step_of rises) (base_of rises (far case)), case.torus, case.stencil) → P (region.space, region.margin, moved, t, v)
-  said P p = subst P (λ i. (sym ready.laid.space i, sym ready.laid.margin i, sym is_moved i, sym ready.space i, ready.set i)) p
+  said P p = subst P (λ i. (sym ready.laid.space i, sym ready.laid.margin i, sym is_moved i, sym space i, ready.set i)) p
 
   whole : length region.slots ≡ case.stencil.directions * array_size case.torus (far case)
   whole = whole_region case (layout_before case rises) region valid ready.laid

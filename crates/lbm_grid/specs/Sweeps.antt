@@ -2,7 +2,7 @@
 --     rises    whether it rises
 use Rattle.std.specs.Prelude.{◌≡◌, ℕ, Bool, false, true, List, length, ℤ, if◌then◌else◌}
 use Rattle.lbm_space.specs.Stencil.{Stencil, velocity}
-use Rattle.lbm_space.specs.Torus.{Torus, rows}
+use Rattle.lbm_space.specs.Torus.{rows}
 use Rattle.lbm_space.specs.Padded.{reach}
 use Rattle.lbm_space.specs.Cuttings.{rows_of, slabs_of}
 use Rattle.lbm_model.specs.declared.layout.Layout.{Layout}
@@ -48,10 +48,9 @@ abbrev pub AreLoadedFor : FlowCase → Bool → (old new : List ℤ) → Type 0
 AreLoadedFor case rises old new = AreLoaded case.torus case.stencil.directions (far case) (base_of rises (far case)) old new
 
 -- all is ready for a sweep: pads are loaded, strips are saved
-pub record AreReady (case : FlowCase) (v : Stencil) (rises : Bool) (bounds : List ℕ) (t : Torus) (begins : List ℕ) (width : ℕ) (kept : List ℤ) (region : Arrays) : Type 0 where
+pub record AreReady (case : FlowCase) (v : Stencil) (rises : Bool) (bounds begins : List ℕ) (width : ℕ) (kept : List ℤ) (region : Arrays) : Type 0 where
   pub valid : IsCase case
   pub set : case.stencil ≡ v
-  pub space : t ≡ case.torus
   pub laid : IsLaidOut case (layout_before case rises) region
   pub cutting : rows_of bounds ≡ rows case.torus
   pub rooms : AreRooms case.torus v bounds begins width (length kept)

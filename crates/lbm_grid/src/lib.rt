@@ -8,6 +8,10 @@
 
 mod grid;
 mod near;
+mod reading;
 mod strips;
+mod way;
 
-pub use grid::Grid;
+pub use grid::{Grid, GridSweeps};
+pub use near::Near;
+pub use way::{Falling, Rising, Way};

@@ -1,157 +1,127 @@
 //! Cells that take their populations from the places behind them, in their slab's ranges or in what it has saved.
 
-ghost use Rattle.std.specs.Prelude.{◌≡◌, ℕ, ◌+◌, ◌<◌, ◌≤◌, true, false, length, pos, slice_index_or};
-ghost use Rattle.lbm_sweep.specs.Blocks.{AreLanes, IsSized};
-ghost use Rattle.lbm_sweep.specs.Spans.{IsSpan};
+ghost use Rattle.std.specs.Prelude.{◌≡◌, ℕ, ◌*◌, ◌+◌, ◌<◌, ◌≤◌, ◌^◌, length, true};
+ghost use Rattle.std.proofs.Common.{◌∙◌, ap, subst, sym};
+ghost use Rattle.std.proofs.Props.{props};
+ghost use Rattle.lbm_space.specs.Torus.{rows as row_count};
+ghost use Rattle.lbm_arrays.specs.Lent.{first_slot, Place};
+ghost use Rattle.lbm_sweep.specs.Held.{width};
 ghost use Rattle.lbm_sweep.specs.Slabs.{Ranges};
-ghost use Rattle.lbm_grid.specs.Near.{reading_of, seen, taken_near, IsNear, IsThere};
-ghost use Rattle.lbm_grid.specs.NearLaws.{still_near, still_risen, still_fallen};
+ghost use Rattle.lbm_grid.specs.Near.{read_place, reading_at, reading_of, seen, taken_near, AreBetween, AreOwn, AreThere, IsNear, OwnBegin};
+ghost use Rattle.lbm_grid.specs.NearLaws.{seen_pending, seen_still};
 
-use crate::strips::strip;
-use lbm_arrays::{Loan, place_behind};
+use crate::reading::{Reading, bounds, is_outside, lanes_near, place_near, reading_for};
+use crate::way::Way;
+use lbm_arrays::Loan;
 use lbm_space::{Space, VelocitySet};
-use lbm_sweep::{Block, FallingSource, Source, Span};
+use lbm_sweep::{SlabCall, Slots, Source, Taking, collide_taking, first_slots};
+use lbm_walk::Kernel;
 use std::marker::PhantomData;
 
-/// How a slab reads an array: place p is `at + p - first` of what is kept, from `first` up to, not including, `past`, and
-/// else place `p + up - down` of its range.
-#[derive(Clone, Copy, Debug, PartialEq, Eq)]
-pub(crate) struct Reading {
-    pub(crate) array: u32,
-    pub(crate) first: u32,
-    pub(crate) past: u32,
-    pub(crate) at: usize,
-    pub(crate) up: u32,
-    pub(crate) down: u32,
-}
-
 /// Each cell takes population i from the slot behind it in array i of one lattice, whose pads are loaded, or from where
-/// its slab has saved it.
+/// its slab has saved it. What is read is what the slabs have saved; the places say where the room of each begins.
 #[derive(Drop)]
-pub(crate) struct Near<'a, V: VelocitySet> {
+pub struct Near<V: VelocitySet, W: Way> {
     pub(crate) set: PhantomData<V>,
+    pub(crate) way: PhantomData<W>,
     pub(crate) space: Space,
-    pub(crate) begins: &'a [u32],
     pub(crate) width: usize,
-    pub(crate) kept: &'a [i64],
 }
 
-impl<V: VelocitySet> Source for Near<'_, V> {
-    ghost space = { λ w. w.space };
+impl<V: VelocitySet, W: Way> Source<V> for Near<V, W> {
+    ghost torus = { λ w. w.space };
 
-    ghost directions = { λ w. V.stencil.directions };
+    ghost spares = { λ w writes. AreOwn V.stencil.directions writes };
 
-    ghost ready = { λ w rows ranges. IsNear w.space V.stencil w.begins.now w.width (length w.kept.now) rows ranges };
+    ghost ready = { λ w read places rows ranges. IsNear w.space V.stencil places w.width (length read) rows ranges };
 
-    ghost before = { λ w rows ranges cell i. taken_near w.space V.stencil true w.begins.now w.width w.kept.now rows ranges cell i };
+    ghost before = { λ w read places rows ranges cell i. taken_near w.space V.stencil W.RISES places w.width read rows ranges cell i };
 
-    fn gather(&self, loan: &Loan<'_>, span: Span) -> Block {
-        self.block(loan, true, span)
-    }
-
-    ghost still_ready = { λ w rows q len old new ready sized still. still_near w.space V.stencil w.begins.now w.width (length w.kept.now) rows q len old new ready sized still };
-
-    ghost still_there = { λ w rows old new cell i ready here same known. still_risen w.space V.stencil w.begins.now w.width w.kept.now rows old new cell i ready here same known };
-}
-
-impl<V: VelocitySet> FallingSource for Near<'_, V> {
-    ghost space = { λ w. w.space };
-
-    ghost directions = { λ w. V.stencil.directions };
-
-    ghost ready = { λ w rows ranges. IsNear w.space V.stencil w.begins.now w.width (length w.kept.now) rows ranges };
-
-    ghost before = { λ w rows ranges cell i. taken_near w.space V.stencil false w.begins.now w.width w.kept.now rows ranges cell i };
-
-    fn gather(&self, loan: &Loan<'_>, span: Span) -> Block {
-        self.block(loan, false, span)
-    }
-
-    ghost still_ready = { λ w rows q len old new ready sized still. still_near w.space V.stencil w.begins.now w.width (length w.kept.now) rows q len old new ready sized still };
-
-    ghost still_there = { λ w rows old new cell i ready here same known. still_fallen w.space V.stencil w.begins.now w.width w.kept.now rows old new cell i ready here same known };
-}
-
-impl<V: VelocitySet> Near<'_, V> {
-    // Row i of the block has population i of each cell of the span.
-    fn block(&self, loan: &Loan<'_>, rises: bool, span: Span) -> Block
-        requires near { IsNear self.now.space V.stencil self.now.begins.now self.now.width (length self.now.kept.now) loan.now.rows loan.now.ranges }
-        requires span { IsSpan self.now.space loan.now.rows span }
-        ensures populations { AreLanes V.stencil.directions span.n (λ j. taken_near self.now.space V.stencil rises self.now.begins.now self.now.width self.now.kept.now loan.now.rows loan.now.ranges (span.cell + j)) result }
-        ensures sized { IsSized 27 8 result }
-    {
-        let mut block = [[0; 8]; 27];
-        for k in 0..V::Q {
-            block[k] = self.row(loan, rises, span, k);
-        }
-        block
-    }
-
-    // Population `k` of each cell of the span. The other lanes are of no use.
-    fn row(&self, loan: &Loan<'_>, rises: bool, span: Span, k: usize) -> [i64; 8]
-        requires direction { k < V.stencil.directions }
-        requires near { IsNear self.now.space V.stencil self.now.begins.now self.now.width (length self.now.kept.now) loan.now.rows loan.now.ranges }
-        requires span { IsSpan self.now.space loan.now.rows span }
-        ensures { (j : ℕ) → j < span.n → slice_index_or result j (pos 0) ≡ taken_near self.now.space V.stencil rises self.now.begins.now self.now.width self.now.kept.now loan.now.rows loan.now.ranges (span.cell + j) k }
-    {
-        let reading = self.reading(rises, loan.rows(), k);
-        let place = place_behind::<V>(&self.space, k, span.place);
-        lanes(loan, self.kept, reading, place, span.n)
-    }
-
-    // How a slab of these rows reads array `k`.
-    fn reading(&self, rises: bool, rows: (u32, u32), k: usize) -> Reading
-        requires direction { k < V.stencil.directions }
-        requires near { (ranges : Ranges) × IsNear self.now.space V.stencil self.now.begins.now self.now.width (length self.now.kept.now) rows ranges }
-        ensures { result ≡ reading_of self.now.space V.stencil rises self.now.begins.now self.now.width rows k }
-    {
-        let (first, past) = strip::<V>(&self.space, rises, k, rows);
-        let start = self.space.row_start(rows.0);
-        let reach = self.space.reach::<V>();
-        let (up, down) = if rises {
-            (reach, start)
-        } else {
-            (0, start + reach)
+    fn collide<K: Kernel<V>>(
+        &self,
+        kernel: &K,
+        call: &SlabCall<'_>,
+        loan: &mut Loan<'_>,
+    ) -> Option<u32> {
+        let rows = loan.rows();
+        let readings = self.readings(call.read, call.places, rows);
+        let (least, most) = bounds::<V>(&readings);
+        let to = first_slots(loan, call.writes);
+        let taking = PlacesNear::<W> {
+            way: PhantomData,
+            saved: call.read,
+            readings,
+            least,
+            most,
+            to,
         };
-        Reading {
-            array: k as u32,
-            first,
-            past,
-            at: k * self.width + self.begins[rows.0 as usize] as usize,
-            up,
-            down,
+        collide_taking::<V, K, PlacesNear<'_, W>>(kernel, &taking, call, loan)
+    }
+}
+
+impl<V: VelocitySet, W: Way> Near<V, W> {
+    // How a slab of these rows reads the array of each direction.
+    fn readings(&self, saved: &[i64], begins: &[u32], rows: (u32, u32)) -> [Reading; 27]
+        requires near { (ranges : Ranges) × IsNear self.now.space V.stencil begins.now self.now.width (length saved.now) rows ranges }
+        ensures { (i : ℕ) → i < V.stencil.directions → reading_at result i ≡ reading_of self.now.space V.stencil W.RISES begins.now self.now.width rows i }
+    {
+        let _ = saved.len(); // It fits a machine word.
+        let none = Reading {
+            first: 0,
+            past: 0,
+            at: 0,
+            far: 0,
+        };
+        let mut readings = [none; 27];
+        for k in 0..V::Q {
+            readings[k] = reading_for::<V, W>(&self.space, begins, self.width, rows, k);
         }
+        readings
     }
 }
 
-// What is read at `n` places, 1 to 8, from `place` on. The other lanes are of no use.
-fn lanes(loan: &Loan<'_>, kept: &[i64], reading: Reading, place: u32, n: u32) -> [i64; 8]
-    requires some { 1 ≤ n }
-    requires few { n ≤ 8 }
-    requires small { place + n ≤ 4194304 }
-    requires far { reading.up ≤ 4194304 }
-    requires sized { (q len : ℕ) × IsSized q len loan.now.ranges × (reading.array < q) × ((j : ℕ) → j < n → IsThere (length kept.now) len reading (place + j)) }
-    ensures { (j : ℕ) → j < n → slice_index_or result j (pos 0) ≡ seen kept.now loan.now.ranges reading (place + j) }
-{
-    if place + n <= reading.first || reading.past <= place {
-        return loan.load8(reading.array, place + reading.up - reading.down, n);
-    }
-    let mut lanes = [0; 8];
-    for j in 0..n {
-        lanes[j as usize] = lane(loan, kept, reading, place + j);
-    }
-    lanes
+// Direction i is taken from the range of array i, at the place behind a cell's own, or from what is saved of it.
+#[derive(Drop)]
+struct PlacesNear<'s, W: Way> {
+    way: PhantomData<W>,
+    saved: &'s [i64],
+    readings: [Reading; 27],
+    // all strips lie from the place `least` up to, not including, `most`
+    least: u32,
+    most: u32,
+    // the slots at which the ranges begin
+    to: Slots,
 }
 
-// What is read at a place.
-fn lane(loan: &Loan<'_>, kept: &[i64], reading: Reading, place: u32) -> i64
-    requires small { place ≤ 4194304 }
-    requires far { reading.up ≤ 4194304 }
-    requires sized { (q len : ℕ) × IsSized q len loan.now.ranges × (reading.array < q) × IsThere (length kept.now) len reading place }
-    ensures { result ≡ seen kept.now loan.now.ranges reading place }
-{
-    if reading.first <= place && place < reading.past {
-        return kept[reading.at + (place - reading.first) as usize];
+impl<V: VelocitySet, W: Way> Taking<V> for PlacesNear<'_, W> {
+    ghost RISES = { W.RISES };
+
+    ghost fits = { λ w writes lent. AreOwn V.stencil.directions writes × OwnBegin V.stencil.directions lent.place w.to × AreThere W.RISES V.stencil.directions (length w.saved.now) (width lent.ranges) w.readings × AreBetween V.stencil.directions w.least w.most w.readings };
+
+    ghost fits_once = { λ w writes lent. Prim.hlevel props };
+
+    ghost taken = { λ w lent i p. seen W.RISES w.saved.now lent.ranges i (reading_at w.readings i) p };
+
+    #[inline(always)]
+    fn rises() -> bool
+        ensures { result ≡ W.RISES }
+    {
+        W::rises()
     }
-    loan.load8(reading.array, place + reading.up - reading.down, 1)[0]
+
+    #[inline(always)]
+    fn take(&self, loan: &Loan<'_>, dir: usize, at: u32, n: u32) -> [i64; 8] {
+        let free = is_outside(self.least, self.most, at, n);
+        if free {
+            let place = place_near::<W>(at, self.readings[dir].far);
+            return loan.load_at(self.to[dir], place, n);
+        }
+        lanes_near::<W>(loan, self.saved, self.to[dir], self.readings[dir], at, n)
+    }
+
+    ghost still_fits = { λ w writes a b from to but fit. (fit.0, λ i known. fit.1 i known ∙ ap (λ (p : Place). first_slot p i) (sym but.place), subst (λ (len : ℕ). AreThere W.RISES V.stencil.directions (length w.saved.now) len w.readings) (sym but.wide) fit.2, fit.3) };
+
+    ghost still_pending = { λ w a b at n i p but past. seen_pending W.RISES w.saved.now a b i (reading_at w.readings i) at n p but past };
+
+    ghost still_there = { λ w writes a b dir fit put others i p known ne opposite. seen_still W.RISES w.saved.now a.ranges b.ranges i (reading_at w.readings i) p (others i (read_place W.RISES (reading_at w.readings i).far p) (λ same. ne (same ∙ fit.0 dir put))) };
 }

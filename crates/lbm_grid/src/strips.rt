@@ -177,8 +177,8 @@ fn save_slab<V: VelocitySet>(
     }
 }
 
-// Copies `n` numbers, from number `place` on, to the places from `at` on.
-fn copy_run(to: &mut [i64], at: usize, from: &[i64], place: usize, n: usize)
+/// Copies `n` numbers, from number `place` on, to the places from `at` on.
+pub(crate) fn copy_run(to: &mut [i64], at: usize, from: &[i64], place: usize, n: usize)
     requires to { at + n ≤ length to.old }
     requires from { place + n ≤ length from.now }
     ensures copied { (i : ℕ) → i < n → held to.new (at + i) ≡ held from.now (place + i) }

@@ -1,13 +1,11 @@
 -- A pair of directions of all lanes, on the way over the pairs.
-use Rattle.std.proofs.Common.{◌≡◌, ◌≢◌, ℕ, ◌+◌, ◌*◌, ◌<◌, ◌≤◌, Bool, true, false, List, ℤ, pos, ◌+ℤ◌, ◌-ℤ◌, unsigned_abs, refl, ap, sym, arith, ◌∙◌, inl, inr, FitsSigned, ◌^◌}
+use Rattle.std.proofs.Common.{◌≡◌, ◌≢◌, ℕ, ◌+◌, ◌*◌, ◌<◌, ◌≤◌, List, ℤ, pos, ◌+ℤ◌, ◌-ℤ◌, unsigned_abs, refl, ap, sym, arith, ◌∙◌, inl, inr, FitsSigned}
 use Rattle.std.specs.Int.{w64}
 use Rattle.lbm_lanes.proofs.Outcome.{sum_start}
-use Rattle.std.specs.Prelude.{if◌then◌else◌, ◌&&◌, not, nat_lt, ◌==◌}
 use Rattle.std.proofs.lemmas.Int.{ints, fits_signed_from_abs}
 use Rattle.std.proofs.lemmas.Bool.{cases_lt}
-use Rattle.lbm_space.specs.Sum.{sum_from_one}
-use Rattle.lbm_space.specs.Stencil.{Stencil, opposite, IsVelocitySet}
-use Rattle.lbm_walk.specs.Turns.{turn, IsUnderway, sum_before}
+use Rattle.lbm_space.specs.Stencil.{Stencil, IsVelocitySet}
+use Rattle.lbm_walk.specs.Turns.{turn, sum_before}
 use Rattle.lbm_walk.proofs.Turns.{underway_none, underway_at, sum_none}
 use Rattle.lbm_lanes.specs.Lanes.{entry}
 use Rattle.lbm_lanes.specs.Progress.{IsProgress}

@@ -1,10 +1,10 @@
 -- A pair of directions of a lane, whether it collides or not.
-use Rattle.std.proofs.Common.{◌≡◌, ℕ, ◌+◌, ◌-◌, ◌*◌, ◌<◌, ◌≤◌, Bool, true, false, List, ℤ, pos, ◌+ℤ◌, ◌-ℤ◌, ◌*ℤ◌, ◌≤ℤ◌, unsigned_abs, ◌^◌, refl, ap, sym, arith, lit<, ◌∙◌, replicate, eqb}
+use Rattle.std.proofs.Common.{◌≡◌, ℕ, ◌+◌, ◌-◌, ◌*◌, ◌<◌, ◌≤◌, Bool, true, false, List, ℤ, pos, ◌+ℤ◌, ◌-ℤ◌, ◌*ℤ◌, ◌≤ℤ◌, unsigned_abs, refl, ap, sym, arith, lit<, ◌∙◌, replicate, eqb}
 use Rattle.std.specs.Int.{w64}
 use Rattle.std.proofs.lemmas.Simd.{get_or-replicate}
 use Rattle.std.proofs.lemmas.Bool.{ne_eqb}
 use Rattle.lbm_lanes.specs.Lanes.{entry}
-use Rattle.std.specs.Prelude.{if◌then◌else◌, FitsSigned, ◌==◌}
+use Rattle.std.specs.Prelude.{if◌then◌else◌, FitsSigned}
 use Rattle.std.proofs.lemmas.Int.{ints, fits_signed_from_abs}
 use Rattle.std.proofs.lemmas.Nat.{mul-le}
 use Rattle.std.proofs.Math.Nat.{mul-le-mul_right}

@@ -1,6 +1,6 @@
 -- A quotient that is guessed with a reciprocal is right or one below.
-use Rattle.std.proofs.Common.{◌≡◌, ℕ, ◌+◌, ◌-◌, ◌*◌, ◌/◌, ◌<◌, ◌≤◌, true, false, nat_lt, if◌then◌else◌, sym, ap, arith, inl, inr, ◌∙◌}
-use Rattle.std.proofs.lemmas.Bool.{cases_lt, lt-ltb, le-ltb}
+use Rattle.std.proofs.Common.{◌≡◌, ℕ, ◌+◌, ◌-◌, ◌*◌, ◌/◌, ◌<◌, ◌≤◌, ap, arith, inl, inr, ◌∙◌}
+use Rattle.std.proofs.lemmas.Bool.{cases_lt}
 use Rattle.std.proofs.lemmas.Nat.{div-mul-add}
 use Rattle.std.proofs.Math.Nat.{mul-le-mul_left, mul-le-mul_right, lt-div-mul-add, div-mul-le_self}
 
@@ -62,14 +62,22 @@ module _ (n d m p t : ℕ) (is : IsGuess n d m p t) where
         absurd (omega (arith, is.scales, is.near, is.divides, one, two, three, four)))
   ]
 
--- a guess that is set right
-pub corrected_is : (n d g p rest more one : ℕ) → p ≡ g * d → rest ≡ n - p → one ≡ 1 → more ≡ g + one → g * d ≤ n → n < (g + 2) * d → (if nat_lt rest d then g else more) ≡ n / d
-corrected_is n d g p rest more one is_p is_rest is_one is_more low high = elim (cases_lt rest d) [
-  | inl smaller ↦ (let on : nat_lt rest d ≡ true = lt-ltb rest d smaller in rw on (sym (quotient_is n d g low (omega (arith, is_p, is_rest, smaller)))))
+-- what is left
+pub left_below : (n d g p rest : ℕ) → p ≡ g * d → rest ≡ n - p → g * d ≤ n → n < (g + 2) * d → rest < 2 * d
+left_below n d g p rest is_p is_rest low high = omega (arith, is_p, is_rest, low, high)
+
+-- a guess that is set right: the sum of what is left and 2^61 - d has a bit of 2^61 where the guess is one below
+pub corrected_is : (n d g p rest whole least raised bit : ℕ) → p ≡ g * d → rest ≡ n - p → whole ≡ 2305843009213693952 → least ≡ whole - d → raised ≡ rest + least → bit ≡ raised / 2305843009213693952 → d < 4294967296 → g * d ≤ n → n < (g + 2) * d → g + bit ≡ n / d
+corrected_is n d g p rest whole least raised bit is_p is_rest is_whole is_least is_raised is_bit fits low high = elim (cases_lt rest d) [
+  | inl smaller ↦ (
+      let none : raised / 2305843009213693952 ≡ 0 = quotient_is raised 2305843009213693952 0 (omega arith) (omega (arith, is_whole, is_least, is_raised, fits, smaller)) in
+      let right : n / d ≡ g = quotient_is n d g low (omega (arith, is_p, is_rest, smaller)) in
+      omega (arith, is_bit, none, right))
   | inr past ↦ (
-      let off : nat_lt rest d ≡ false = le-ltb rest d past in
-      let next : more ≡ g + 1 = omega (arith, is_one, is_more) in
-      rw off (next ∙ sym (quotient_is n d (g + 1) (omega (arith, is_p, is_rest, past, low)) (omega (arith, high)))))
+      let left = left_below n d g p rest is_p is_rest low high in
+      let one : raised / 2305843009213693952 ≡ 1 = quotient_is raised 2305843009213693952 1 (omega (arith, is_whole, is_least, is_raised, fits, past)) (omega (arith, is_whole, is_least, is_raised, fits, left)) in
+      let right : n / d ≡ g + 1 = quotient_is n d (g + 1) (omega (arith, is_p, is_rest, past, low)) (omega (arith, high)) in
+      omega (arith, is_bit, one, right))
 ]
 
 -- a guess by its steps

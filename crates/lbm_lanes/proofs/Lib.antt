@@ -1,4 +1,3 @@
-mod Masks
 mod Operators
 mod Guess
 mod Quotients
@@ -7,10 +6,12 @@ mod Floors
 mod PairFormula
 mod PairBounds
 mod PairLanes
+mod Equilibria
 mod PairCells
 mod Ready
 mod Collided
 mod Wrapping
 mod Summing
 mod Advancing
+pub mod Masks
 mod Outcome

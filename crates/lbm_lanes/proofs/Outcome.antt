@@ -1,20 +1,17 @@
 -- What a lane becomes, and which lane is out of limits.
-use Rattle.std.proofs.Common.{◌≡◌, ◌≢◌, ℕ, zero, suc, ◌+◌, ◌-◌, ◌*◌, ◌/◌, ◌%◌, ◌^◌, ◌<◌, ◌≤◌, min, max, Bool, true, false, cond, eqb, List, [], ◌∷◌, Option, Some, None, ℤ, pos, ◌+ℤ◌, ◌-ℤ◌, ◌*ℤ◌, ◌≤ℤ◌, unsigned_abs, refl, ap, sym, subst, arith, lit<, ◌∙◌, inl, inr, w8}
-use Rattle.std.specs.Prelude.{if◌then◌else◌, ◌&&◌, not, nat_lt, ◌==◌, int_le, bit_and}
-use Rattle.std.specs.Int.{bit_at, bit_not}
-use Rattle.std.proofs.lemmas.Int.{ints}
-use Rattle.std.proofs.lemmas.Bool.{cases_lt, ne_eqb, lt-ltb, le-ltb}
-use Rattle.std.proofs.lemmas.Nat.Bits.{bit_at_and, bit_at_not, bit_at_ones}
+use Rattle.std.proofs.Common.{◌≡◌, ℕ, zero, suc, ◌+◌, ◌-◌, ◌<◌, ◌≤◌, min, Bool, true, false, eqb, List, [], ◌∷◌, Option, None, ℤ, pos, ◌-ℤ◌, ◌*ℤ◌, refl, ap, sym, arith, lit<, ◌∙◌}
+use Rattle.std.specs.Prelude.{if◌then◌else◌, ◌&&◌, not, nat_lt, int_le}
+use Rattle.std.proofs.lemmas.Bool.{ne_eqb, lt-ltb, le-ltb}
 use Rattle.lbm_space.specs.Sum.{sum_below, sum_from_one, all_below}
-use Rattle.lbm_space.specs.Stencil.{Stencil, part, velocity, opposite, IsVelocitySet}
+use Rattle.lbm_space.specs.Stencil.{Stencil, part, velocity, IsVelocitySet}
 use Rattle.lbm_space.proofs.Sums.{sum_below-same, sum_below-zero}
-use Rattle.lbm_cell.specs.Moments.{density, momentum_part, momentum, in_limits}
-use Rattle.lbm_cell.specs.Collision.{RelaxationRates, collision, reflection}
+use Rattle.lbm_cell.specs.Moments.{density, momentum_part, in_limits}
+use Rattle.lbm_cell.specs.Collision.{RelaxationRates, collision}
 use Rattle.lbm_cell.proofs.Limits.{InLimits-from_test, momentum_small}
 use Rattle.lbm_walk.specs.Turns.{turn, sum_before}
 use Rattle.lbm_walk.proofs.Turns.{opposite_rest, sum_all}
-use Rattle.lbm_lanes.specs.Cells.{IsSound, IsCell, IsReady, IsWithin, lowered, moved, settled, is_on}
-use Rattle.lbm_lanes.specs.Lanes.{has, held, becomes, found_or, least_passing, entry}
+use Rattle.lbm_lanes.specs.Cells.{IsCell, IsWithin, moved, settled}
+use Rattle.lbm_lanes.specs.Lanes.{held, becomes, found_or, least_passing}
 use Rattle.lbm_lanes.specs.Sums.{IsSummed}
 
 -- before any turn nothing is summed
@@ -103,35 +100,6 @@ held_past n there k l beyond = let off : nat_lt l n ≡ false = le-ltb l n beyon
 
 pub held_there : (n : ℕ) (there : ℕ → ℕ → ℤ) (k l : ℕ) → l < n → there k l ≡ held n there l k
 held_there n there k l within = let on : nat_lt l n ≡ true = lt-ltb l n within in rw on refl
-
--- masks
-pub chosen_bit : (fluid out j : ℕ) → fluid < 256 → out < 256 → j < 8 → has (bit_and fluid (bit_not w8 out)) j ≡ (has fluid j && not (has out j))
-chosen_bit fluid out j small small' known =
-    let both = bit_at_and fluid (bit_not w8 out) j in
-    let none = bit_at_not w8 out j small' known in
-    let one : bit_at fluid j < 2 = omega arith in
-    let two : bit_at out j < 2 = omega arith in
-    ap (λ (n : ℕ). n == 1) (both ∙ ap (min (bit_at fluid j)) none) ∙ bits (bit_at fluid j) (bit_at out j) one two
-  where
-    bits : (a b : ℕ) → a < 2 → b < 2 → (min a (1 - b) == 1) ≡ ((a == 1) && not (b == 1))
-    bits zero zero a b = refl
-    bits zero (suc zero) a b = refl
-    bits (suc zero) zero a b = refl
-    bits (suc zero) (suc zero) a b = refl
-    bits (suc (suc n)) m a b = absurd (omega (arith, a))
-    bits zero (suc (suc m)) a b = absurd (omega (arith, b))
-    bits (suc zero) (suc (suc m)) a b = absurd (omega (arith, b))
-
-pub every_bit : (j : ℕ) → j < 8 → has 255 j ≡ true
-every_bit j known = ap (λ (n : ℕ). n == 1) (bit_at_ones 8 j known)
-
-both_true : (a b : Bool) → (a && not b) ≡ true → (a ≡ true) × (b ≡ false)
-both_true true true e = absurd cc
-both_true true false e = (refl, refl)
-both_true false b e = absurd cc
-
-pub all_chosen : (fluid out chosen j : ℕ) → fluid < 256 → out < 256 → j < 8 → chosen ≡ bit_and fluid (bit_not w8 out) → chosen ≡ 255 → (has fluid j ≡ true) × (has out j ≡ false)
-all_chosen fluid out chosen j small small' known is all = both_true (has fluid j) (has out j) (sym (chosen_bit fluid out j small small' known) ∙ ap (λ (n : ℕ). has n j) (sym is ∙ all) ∙ every_bit j known)
 
 -- the least lane that passes
 pub least_same : (n : ℕ) (t u : ℕ → Bool) → ((j : ℕ) → j < n → t j ≡ u j) → least_passing n t ≡ least_passing n u

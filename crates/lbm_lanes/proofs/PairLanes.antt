@@ -1,7 +1,7 @@
 -- One lane of a pair, by natural numbers.
 use Rattle.std.proofs.Common.{◌≡◌, ℕ, ◌+◌, ◌-◌, ◌*◌, ◌/◌, ◌<◌, ◌≤◌, ℤ, pos, ◌+ℤ◌, ◌-ℤ◌, ◌*ℤ◌, unsigned_abs, ap, arith, ◌∙◌}
 use Rattle.std.proofs.lemmas.Int.{ints}
-use Rattle.std.proofs.Math.Nat.{lt-div-mul-add, div-mul-le_self, mul-le-mul_left}
+use Rattle.std.proofs.Math.Nat.{lt-div-mul-add, div-mul-le_self, mul-le-mul_left, mul-le-mul_right}
 use Rattle.std.proofs.lemmas.Nat.{mul-le}
 use Rattle.lbm_cell.specs.Collision.{floor_div}
 use Rattle.lbm_lanes.specs.Pairs.{shortfall, above, below, IsLane}
@@ -31,6 +31,65 @@ lifted z a b k r dense some small is =
     let most : k * r ≤ k * 1769472 = mul-le-mul_left k dense in
     let order : b ≤ a + k * 8388608 = omega (arith, ints, is.is, small, most) in
     (order, omega (arith, ints, is.is, small, most, some), omega (arith, ints, is.is, order))
+
+-- the bounds of a lane
+pub record IsBounded (r base raised : ℕ) : Type 0 where
+  pub thin : 442368 ≤ r
+  pub dense : r ≤ 1769472
+  pub least : base ≤ 11 * (r * r)
+  pub forward : raised ≤ 8388608 + 3 * r
+  pub backward : 8388608 ≤ raised + 3 * r
+  pub small : raised ≤ 16777216
+
+pub bounded : (w d p m q n r own base raised f o : ℕ) → IsLane w d p m q n r own base raised f o → IsBounded r base raised
+bounded w d p m q n r own base raised f o is =
+    let most : n * r ≤ 3 * r = mul-le-mul_right r is.axes in
+    record {
+      thin = is.not_thin;
+      dense = is.not_dense;
+      least = omega (arith, is.base_is);
+      forward = omega (arith, most, is.forward);
+      backward = omega (arith, most, is.backward);
+      small = omega (arith, most, is.forward, is.not_dense);
+    }
+
+-- the opposite direction
+pub opposite_lane : (w d p m q n r own base raised turned f o : ℕ) → turned ≡ 16777216 - raised → raised ≤ 16777216 → IsLane w d p m q n r own base raised f o → IsLane w d p m q n r own base turned o f
+opposite_lane w d p m q n r own base raised turned f o is_turned within is = record {
+  moves = is.moves;
+  axes = is.axes;
+  light = is.light;
+  divides = is.divides;
+  rated = is.rated;
+  p_stable = is.p_stable;
+  m_stable = is.m_stable;
+  not_thin = is.not_thin;
+  not_dense = is.not_dense;
+  square = is.square;
+  base_is = is.base_is;
+  forward = omega (arith, is_turned, within, is.backward);
+  backward = omega (arith, is_turned, within, is.forward);
+  ahead = is.behind;
+  behind = is.ahead;
+}
+
+pub turned_square : (square raised turned : ℕ) → turned + raised ≡ 16777216 → square + 16777216 * raised ≡ raised * raised + 70368744177664 → square + 16777216 * turned ≡ turned * turned + 70368744177664
+turned_square square raised turned whole is =
+    let times : turned * (turned + raised) ≡ turned * 16777216 = ap (λ (k : ℕ). turned * k) whole in
+    let crosses : raised * (turned + raised) ≡ raised * 16777216 = ap (λ (k : ℕ). raised * k) whole in
+    omega (arith, times, crosses, whole, is)
+
+-- what both directions of a pair lose is less than 2^23 divisors
+pub held_below : (w d p m q n r own base raised f o : ℕ) → IsLane w d p m q n r own base raised f o → 9 * (p * w) * r + p * d * (f + o) ≤ 2 * (d * q) * 8388608
+held_below w d p m q n r own base raised f o is =
+    let axes : 1 * 1 ≤ n * n = mul-le 1 1 n n is.moves is.moves in
+    let least : w * 17 ≤ w * (2 + 6 * n + 9 * n * n) = mul-le-mul_left w (omega (arith, axes, is.moves)) in
+    let light : w * 17 ≤ 2 * d = omega (arith, least, is.light) in
+    let weights : p * r * (w * 17) ≤ p * r * (2 * d) = mul-le-mul_left (p * r) light in
+    let both : p * d * (f + o) ≤ p * d * (2 * r) = mul-le-mul_left (p * d) (omega (arith, is.ahead, is.behind)) in
+    let rates : d * r * p ≤ d * r * (2 * q) = mul-le-mul_left (d * r) is.p_stable in
+    let dense : d * q * r ≤ d * q * 1769472 = mul-le-mul_left (d * q) is.not_dense in
+    omega (arith, weights, both, rates, dense)
 
 module _ (w d p m q n r own base raised f o square y shared : ℕ) (is : IsLane w d p m q n r own base raised f o)
     (is_square : square + 16777216 * raised ≡ raised * raised + 70368744177664) (is_y : y ≡ base + 9 * square) (is_shared : shared ≡ p * w * (y / r) + p * w * (y - y / r * r) / r) where

@@ -1,13 +1,13 @@
 -- The numbers of a lane, whether it collides or not.
-use Rattle.std.proofs.Common.{◌≡◌, ℕ, ◌+◌, ◌*◌, ◌/◌, ◌≤◌, ◌<◌, ◌^◌, Bool, true, false, List, ℤ, pos, ◌+ℤ◌, ◌-ℤ◌, ◌*ℤ◌, ◌≤ℤ◌, unsigned_abs, refl, sym, arith, ◌∙◌, ap, ◌-◌, inl, inr, ◌⊎◌, replicate}
+use Rattle.std.proofs.Common.{◌≡◌, ℕ, ◌+◌, ◌*◌, ◌≤◌, ◌<◌, Bool, true, false, List, ℤ, pos, ◌+ℤ◌, ◌-ℤ◌, ◌*ℤ◌, ◌≤ℤ◌, unsigned_abs, refl, sym, arith, ap, ◌-◌, inl, inr, replicate}
 use Rattle.std.proofs.lemmas.Simd.{get_or-replicate}
 use Rattle.lbm_lanes.specs.Lanes.{entry}
 use Rattle.std.proofs.lemmas.Bool.{cases_lt}
-use Rattle.std.specs.Prelude.{if◌then◌else◌, nat_lt, ◌==◌, FitsSigned}
+use Rattle.std.specs.Prelude.{if◌then◌else◌, FitsSigned}
 use Rattle.std.specs.Int.{w64}
 use Rattle.std.proofs.lemmas.Int.{ints, fits_signed_from_abs}
-use Rattle.lbm_space.specs.Stencil.{Stencil, part, dot}
-use Rattle.lbm_lanes.specs.Cells.{lowered, own_square}
+use Rattle.lbm_space.specs.Stencil.{part, dot}
+use Rattle.lbm_lanes.specs.Cells.{lowered}
 
 -- a momentum along a velocity, axis by axis
 pub along_is : (c : List ℤ) (x y z k a b s : ℕ) → k ≡ 8388608 → pos a ≡ pos k +ℤ part c 0 *ℤ (pos x -ℤ pos 8388608) → pos b ≡ pos a +ℤ part c 1 *ℤ (pos y -ℤ pos 8388608) → pos s ≡ pos b +ℤ part c 2 *ℤ (pos z -ℤ pos 8388608) →

@@ -1,13 +1,13 @@
 -- The sums over the directions, one direction after the other.
-use Rattle.std.proofs.Common.{◌≡◌, ◌≢◌, ℕ, zero, suc, ◌+◌, ◌-◌, ◌*◌, ◌^◌, ◌<◌, ◌≤◌, ℤ, pos, negsuc, ◌+ℤ◌, ◌-ℤ◌, ◌*ℤ◌, ◌≤ℤ◌, neg_ℤ, unsigned_abs, min, refl, ap, sym, subst, ◌∙◌, arith, Bool, true, false, T, lit<, inl, inr, to_z, of_z}
+use Rattle.std.proofs.Common.{◌≡◌, ◌≢◌, ℕ, zero, suc, ◌+◌, ◌*◌, ◌<◌, ◌≤◌, ℤ, pos, negsuc, ◌+ℤ◌, ◌-ℤ◌, ◌*ℤ◌, ◌≤ℤ◌, unsigned_abs, min, refl, ap, sym, subst, ◌∙◌, arith, Bool, true, false, T, lit<, inl, inr, to_z, of_z}
 use Rattle.std.proofs.lemmas.Int.{to_z-of_z}
 use Rattle.std.proofs.lemmas.Bool.{cases_lt, lt-ltb, le-ltb}
 use Rattle.lbm_lanes.specs.Lanes.{held}
 use Rattle.std.specs.Prelude.{int_le, nat_lt, ◌&&◌, FitsSigned}
 use Rattle.std.specs.Int.{w32, w64}
-use Rattle.std.proofs.lemmas.Int.{ints, fits_signed_from_abs}
+use Rattle.std.proofs.lemmas.Int.{ints}
 use Rattle.lbm_space.specs.Sum.{sum_below, all_below}
-use Rattle.lbm_space.specs.Stencil.{Stencil, part, velocity, IsVelocitySet}
+use Rattle.lbm_space.specs.Stencil.{Stencil, part, velocity}
 use Rattle.lbm_cell.proofs.Sizes.{size_of_32, product_size}
 use Rattle.lbm_lanes.specs.Sums.{IsSummed}
 

@@ -1,11 +1,11 @@
 -- Lanes of what operators make of vectors of signed numbers.
-use Rattle.std.proofs.Common.{◌≡◌, ◌≢◌, ℕ, zero, suc, ◌+◌, ◌-◌, ◌*◌, ◌/◌, ◌%◌, ◌^◌, ◌<◌, ◌≤◌, ℤ, pos, negsuc, ◌+ℤ◌, ◌-ℤ◌, ◌≤ℤ◌, unsigned_abs, List, [], ◌∷◌, length, map, get_or, to_z, of_z, refl, ap, ◌∙◌, sym, arith, Bool, true, false, eqb, ltb, cond, max, ◌⊎◌, inl, inr, subst, Fits, w8, rules}
+use Rattle.std.proofs.Common.{◌≡◌, ℕ, zero, suc, ◌-◌, ◌%◌, ◌^◌, ◌<◌, ◌≤◌, ℤ, pos, negsuc, ◌+ℤ◌, ◌-ℤ◌, ◌≤ℤ◌, unsigned_abs, List, [], ◌∷◌, length, map, get_or, to_z, of_z, refl, ap, ◌∙◌, sym, arith, Bool, true, false, eqb, ltb, cond, ◌⊎◌, inl, inr, subst, Fits, w8, rules}
 use Rattle.std.specs.Prelude.{int_le, ◌&&◌, not, bit_or, FitsSigned}
 use Rattle.std.proofs.lemmas.Simd.{get_or-zip2}
 use Rattle.std.proofs.lemmas.Int.{ints, fits_signed_from_abs, wrapping_add_is, wrapping_sub_is, int_wrap_fits}
 use Rattle.std.proofs.lemmas.Nat.{or_lt}
 use Rattle.std.proofs.lemmas.Nat.Bits.{bit_at_or}
-use Rattle.std.specs.Int.{w64, int_wrapping_add, int_wrapping_sub, int_bit_or, bit_at}
+use Rattle.std.specs.Int.{w64, int_wrapping_add, int_wrapping_sub, bit_at}
 use Rattle.std.proofs.lemmas.Simd.{mask_l-mod, bit_mask_l, mask_l-lt}
 use Rattle.std.proofs.lemmas.Int.{to_z_pos, to_z-of_z}
 use Rattle.std.proofs.lemmas.Bool.{le-ltb, le-leb}

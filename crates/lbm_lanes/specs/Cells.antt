@@ -1,5 +1,5 @@
 -- The cells of a block that collide, by natural numbers.
-use Rattle.std.specs.Prelude.{◌≡◌, ℕ, ◌+◌, ◌*◌, ◌/◌, ◌≤◌, Bool, true, false, List, [], ◌∷◌, ℤ, pos, ◌+ℤ◌, ◌-ℤ◌, ◌≤ℤ◌, IsTrue, unsigned_abs, nat_lt, slice_index, if◌then◌else◌}
+use Rattle.std.specs.Prelude.{◌≡◌, ℕ, ◌+◌, ◌*◌, ◌/◌, ◌≤◌, Bool, true, List, [], ◌∷◌, ℤ, pos, ◌+ℤ◌, ◌-ℤ◌, ◌≤ℤ◌, IsTrue, unsigned_abs, nat_lt, slice_index, if◌then◌else◌}
 use Rattle.lbm_space.specs.Stencil.{Stencil}
 use Rattle.lbm_cell.specs.Moments.{density, momentum, in_limits}
 use Rattle.lbm_cell.specs.Collision.{RelaxationRates, relaxation, push, collision, reflection}

@@ -1,5 +1,5 @@
 -- Eight cells in step: a lane of eight numbers for each cell.
-use Rattle.std.specs.Prelude.{◌≡◌, ℕ, zero, suc, ◌/◌, ◌%◌, ◌^◌, ◌<◌, ◌==◌, nat_lt, Bool, not, ◌&&◌, Option, Some, None, List, [], length, ℤ, pos, slice_index_or, if◌then◌else◌}
+use Rattle.std.specs.Prelude.{ℕ, zero, suc, ◌/◌, ◌%◌, ◌^◌, ◌==◌, nat_lt, Bool, not, ◌&&◌, Option, Some, None, List, ℤ, pos, slice_index_or, if◌then◌else◌}
 use Rattle.lbm_space.specs.Stencil.{Stencil}
 use Rattle.lbm_cell.specs.Moments.{in_limits}
 use Rattle.lbm_cell.specs.Collision.{RelaxationRates, collision, reflection}

@@ -4,7 +4,7 @@
 --     u          the momentum along the velocity of the direction, and against that of its opposite
 --     f, o       the populations of the direction and of its opposite
 use Rattle.std.specs.Prelude.{◌≡◌, ℕ, ◌+◌, ◌-◌, ◌*◌, ◌/◌, ◌^◌, ◌<◌, ◌≤◌, ℤ, pos, ◌+ℤ◌, ◌-ℤ◌, ◌*ℤ◌}
-use Rattle.lbm_cell.specs.Collision.{floor_div}
+use Rattle.lbm_cell.specs.Collision.{RelaxationRates, floor_div}
 
 -- how far a population is below its equilibrium, times 2 d rho
 abbrev pub shortfall : (w d rho own u f : ℤ) → ℤ
@@ -17,6 +17,12 @@ pub record IsDivisor (d shift reciprocal : ℕ) : Type 0 where
   pub below : d < 128 * 2 ^ shift
   pub known : shift ≤ 12
   pub reciprocal_is : reciprocal ≡ 2 ^ shift * 4294967296 / d
+
+-- rates of one
+pub record IsOne (r : RelaxationRates) : Type 0 where
+  pub p_is : r.p ≡ pos 1
+  pub m_is : r.m ≡ pos 1
+  pub q_is : r.q ≡ pos 1
 
 -- a cell of density rho, with the reciprocal of rho, and of whose momentum the square is own
 pub record IsPrepared (rho reciprocal own base : ℕ) : Type 0 where
@@ -41,6 +47,10 @@ above speed odd divisor shared raised o = shared + speed * raised + (odd * o + d
 
 abbrev pub below : (even mean speed odd rho f o : ℕ) → ℕ
 below even mean speed odd rho f o = 9 * even * rho + mean * (f + o) + (speed * 8388608 + odd * f)
+
+-- What is divided by 2 d in equilibrium, raised by 2^23 divisors.
+abbrev pub balance : (w d r raised shared : ℕ) → ℕ
+balance w d r raised shared = shared + (2 * d - 6 * w) * 8388608 - 9 * w * r + 6 * w * raised
 
 -- a lane of a pair: a pair of weight w over d with rates p / q and m / q, whose velocities have n parts other than 0, in a cell of density r with the square own of its momentum
 pub record IsLane (w d p m q n r own base raised f o : ℕ) : Type 0 where

@@ -1,17 +1,18 @@
 -- The kernel on its way over the pairs of directions.
-use Rattle.std.specs.Prelude.{◌≡◌, ℕ, ◌*◌, ◌<◌, ◌≤◌, Bool, List, ℤ, pos, ◌*ℤ◌, unsigned_abs, slice_index}
+use Rattle.std.specs.Prelude.{◌≡◌, ℕ, ◌*◌, ◌<◌, ◌≤◌, Bool, true, List, ℤ, pos, ◌*ℤ◌, unsigned_abs, slice_index}
 use Rattle.lbm_space.specs.Stencil.{Stencil}
 use Rattle.lbm_cell.specs.Collision.{RelaxationRates, IsForce}
 use Rattle.lbm_walk.specs.Turns.{IsUnderway, sum_before}
 use Rattle.lbm_lanes.specs.Cells.{IsReady, is_on}
 use Rattle.lbm_lanes.specs.Lanes.{entry}
-use Rattle.lbm_lanes.specs.Pairs.{IsDivisor}
+use Rattle.lbm_lanes.specs.Pairs.{IsDivisor, IsOne}
 
--- rates and a force that are allowed, and 2 den q with its reciprocal
-pub record IsRun (v : Stencil) (r : RelaxationRates) (g : List ℤ) (d shift reciprocal : ℕ) : Type 0 where
+-- rates and a force that are allowed, and 2 den q with its reciprocal; the rates are one where that is said
+pub record IsRun (v : Stencil) (one : Bool) (r : RelaxationRates) (g : List ℤ) (d shift reciprocal : ℕ) : Type 0 where
   pub force : IsForce g
   pub prepared : IsDivisor d shift reciprocal
   pub divisor : pos d ≡ pos 2 *ℤ (v.denominator *ℤ r.q)
+  pub ones : one ≡ true → IsOne r
 
 -- the numbers of eight cells, of which cell l had the populations h l
 pub record AreCells (v : Stencil) (mixed : Bool) (colliding rho reciprocal base x y z : List ℕ) (h : ℕ → ℕ → ℤ) : Type 0 where

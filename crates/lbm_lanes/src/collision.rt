@@ -6,7 +6,7 @@ ghost use Rattle.lbm_walk.specs.Blocks.{lane};
 ghost use Rattle.lbm_lanes.specs.Lanes.{has, becomes, least_out};
 
 use crate::kernel::collide_rows;
-use lbm_cell::{Force, Rates};
+use crate::rule::Rule;
 use lbm_space::VelocitySet;
 use lbm_walk::Block;
 
@@ -15,16 +15,15 @@ use lbm_walk::Block;
 /// least lane of `fluid` out of limits.
 pub fn collide_block<V: VelocitySet>(
     b: &mut Block,
-    r: Rates,
-    g: Force,
+    rule: &Rule<V>,
     fluid: u8,
     solid: u8,
 ) -> Option<u32>
     requires fits { (i j : ℕ) → i < V.stencil.directions → j < 8 → FitsSigned w32 (lane b.old.rows j i) }
     requires apart { (j : ℕ) → j < 8 → has fluid j ≡ true → has solid j ≡ false }
-    ensures post { (i j : ℕ) → i < V.stencil.directions → j < 8 → lane b.new.rows j i ≡ becomes V.stencil r g (has fluid j) (has solid j) (lane b.old.rows j) i }
+    ensures post { (i j : ℕ) → i < V.stencil.directions → j < 8 → lane b.new.rows j i ≡ becomes V.stencil rule.now.rates rule.now.force (has fluid j) (has solid j) (lane b.old.rows j) i }
     ensures past { (i j : ℕ) → V.stencil.directions ≤ i → lane b.new.rows j i ≡ lane b.old.rows j i }
     ensures answer { result ≡ least_out V.stencil fluid (lane b.old.rows) }
 {
-    collide_rows::<V, Block>(b, r, g, fluid, solid)
+    collide_rows::<V, Block>(b, rule, fluid, solid)
 }

@@ -6,7 +6,7 @@ ghost use Rattle.lbm_space.specs.Stencil.{weight, opposite};
 ghost use Rattle.lbm_cell.specs.Collision.{IsForce, IsRates};
 ghost use Rattle.lbm_lanes.specs.Cells.{IsReady, is_on, moved, settled};
 ghost use Rattle.lbm_lanes.specs.Lanes.{entry};
-ghost use Rattle.lbm_lanes.specs.Pairs.{IsDivisor};
+ghost use Rattle.lbm_lanes.specs.Pairs.{IsDivisor, IsOne};
 
 use crate::fluid::{Flags, Fluid, kept};
 use crate::pair::{Pair, relaxed_pair};
@@ -58,6 +58,15 @@ fn pair_of<V: VelocitySet>(r: Rates, i: usize) -> Pair
     }
 }
 
+// Whether the rates are one.
+pub(crate) fn is_one(r: Rates) -> bool
+    ensures p { result ≡ true → r.p ≡ pos 1 }
+    ensures m { result ≡ true → r.m ≡ pos 1 }
+    ensures q { result ≡ true → r.q ≡ pos 1 }
+{
+    r.p() == 1 && r.m() == 1 && r.q() == 1
+}
+
 // The number by which each direction is divided.
 pub(crate) fn divisor<V: VelocitySet>(r: Rates) -> Divisor
     ensures prepared { IsDivisor result.d result.shift result.reciprocal }
@@ -99,7 +108,7 @@ fn settle<const MIXED: bool>(
 
 // What the populations `f` of direction `i`, and `o` of its opposite, become where lanes collide.
 #[inline(always)]
-fn moved_pair<V: VelocitySet, const MIXED: bool>(
+fn moved_pair<V: VelocitySet, const MIXED: bool, const ONE: bool>(
     f: [i64; 8],
     o: [i64; 8],
     fluid: &Fluid,
@@ -111,6 +120,7 @@ fn moved_pair<V: VelocitySet, const MIXED: bool>(
     requires force { IsForce run.now.force }
     requires prepared { IsDivisor run.now.divisor.d run.now.divisor.shift run.now.divisor.reciprocal }
     requires divisor { pos run.now.divisor.d ≡ pos 2 *ℤ (V.stencil.denominator *ℤ run.now.rates.q) }
+    requires ones { ONE ≡ true → IsOne run.now.rates }
     requires ready { (l : ℕ) → l < 8 → (h : ℕ → ℤ) × IsReady V.stencil (is_on MIXED (slice_index fluid.now.flags.colliding l)) (slice_index fluid.now.cells.rho l) (slice_index fluid.now.cells.reciprocal l) (slice_index fluid.now.cells.base l) (slice_index fluid.now.x l) (slice_index fluid.now.y l) (slice_index fluid.now.z l) h × (h i ≡ entry f l) × (h (opposite V.stencil i) ≡ entry o l) }
     requires small { (l : ℕ) → l < 8 → unsigned_abs (entry f l) ≤ 2147483648 }
     requires small_opposite { (l : ℕ) → l < 8 → unsigned_abs (entry o l) ≤ 2147483648 }
@@ -125,7 +135,14 @@ fn moved_pair<V: VelocitySet, const MIXED: bool>(
     let ahead = natural(held);
     let behind = natural(held_opposite);
     let pair = pair_of::<V>(run.rates, i);
-    let (more, less) = relaxed_pair(&pair, &run.divisor, &fluid.cells, raised, ahead, behind);
+    let (more, less) = relaxed_pair::<ONE>(
+        &pair,
+        &run.divisor,
+        &fluid.cells,
+        raised,
+        ahead,
+        behind,
+    );
     let first = lowered(more, push::<V>(&run.force, i));
     let second = lowered(less, push::<V>(&run.force, V::opp(i)));
     (first, second)
@@ -133,7 +150,7 @@ fn moved_pair<V: VelocitySet, const MIXED: bool>(
 
 /// What the populations `f` of direction `i`, and `o` of its opposite, become.
 #[inline(always)]
-pub(crate) fn settled_pair<V: VelocitySet, const MIXED: bool>(
+pub(crate) fn settled_pair<V: VelocitySet, const MIXED: bool, const ONE: bool>(
     f: [i64; 8],
     o: [i64; 8],
     fluid: &Fluid,
@@ -145,6 +162,7 @@ pub(crate) fn settled_pair<V: VelocitySet, const MIXED: bool>(
     requires force { IsForce run.now.force }
     requires prepared { IsDivisor run.now.divisor.d run.now.divisor.shift run.now.divisor.reciprocal }
     requires divisor { pos run.now.divisor.d ≡ pos 2 *ℤ (V.stencil.denominator *ℤ run.now.rates.q) }
+    requires ones { ONE ≡ true → IsOne run.now.rates }
     requires ready { (l : ℕ) → l < 8 → (h : ℕ → ℤ) × IsReady V.stencil (is_on MIXED (slice_index fluid.now.flags.colliding l)) (slice_index fluid.now.cells.rho l) (slice_index fluid.now.cells.reciprocal l) (slice_index fluid.now.cells.base l) (slice_index fluid.now.x l) (slice_index fluid.now.y l) (slice_index fluid.now.z l) h × (h i ≡ entry f l) × (h (opposite V.stencil i) ≡ entry o l) }
     requires small { (l : ℕ) → l < 8 → unsigned_abs (entry f l) ≤ 2147483648 }
     requires small_opposite { (l : ℕ) → l < 8 → unsigned_abs (entry o l) ≤ 2147483648 }
@@ -153,7 +171,7 @@ pub(crate) fn settled_pair<V: VelocitySet, const MIXED: bool>(
     ensures ahead_size { (l : ℕ) → l < 8 → unsigned_abs (entry result.0 l) ≤ 4294967296 }
     ensures behind_size { (l : ℕ) → l < 8 → unsigned_abs (entry result.1 l) ≤ 4294967296 }
 {
-    let (first, second) = moved_pair::<V, MIXED>(f, o, fluid, run, i);
+    let (first, second) = moved_pair::<V, MIXED, ONE>(f, o, fluid, run, i);
     let ahead = settle::<MIXED>(&fluid.flags, first, f, o);
     let behind = settle::<MIXED>(&fluid.flags, second, o, f);
     (ahead, behind)

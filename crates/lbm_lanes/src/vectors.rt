@@ -1,6 +1,6 @@
 //! Eight numbers in step. No sum and no product reaches 2^62.
 
-ghost use Rattle.std.specs.Prelude.{◌≡◌, ◌<◌, ◌≤◌, ◌^◌, ◌*◌, ◌+◌, ◌-◌, ◌/◌, ℕ, length, slice_index, if◌then◌else◌, nat_lt};
+ghost use Rattle.std.specs.Prelude.{◌≡◌, ◌<◌, ◌≤◌, ◌^◌, ◌*◌, ◌+◌, ◌-◌, ◌/◌, ℕ, length, slice_index};
 
 use std::simd::prelude::*;
 
@@ -55,14 +55,6 @@ pub(crate) fn cut(a: u64x8, shift: u32) -> u64x8
     ensures { (l : ℕ) → l < 8 → slice_index result l ≡ slice_index a l / 2 ^ shift }
 {
     a >> u64x8::splat(shift as u64)
-}
-
-// The first where the numbers of `low` are below those of `high`, and the second elsewhere.
-#[inline(always)]
-pub(crate) fn chosen(low: u64x8, high: u64x8, first: u64x8, second: u64x8) -> u64x8
-    ensures { (l : ℕ) → l < 8 → slice_index result l ≡ (if nat_lt (slice_index low l) (slice_index high l) then slice_index first l else slice_index second l) }
-{
-    low.simd_lt(high).select(first, second)
 }
 
 #[inline(always)]

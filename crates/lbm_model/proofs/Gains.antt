@@ -1,5 +1,6 @@
 -- How large the gain of a wall is.
-use Rattle.std.proofs.Common.{◌≡◌, ℕ, zero, suc, ◌+◌, ◌*◌, ◌^◌, ◌<◌, ◌≤◌, ℤ, pos, negsuc, ◌*ℤ◌, ◌≤ℤ◌, ◌<ℤ◌, unsigned_abs, List, arith, inl, inr, lit<, refl}
+use Rattle.std.proofs.Common.{◌≡◌, ℕ, zero, suc, ◌+◌, ◌*◌, ◌^◌, ◌<◌, ◌≤◌, ℤ, pos, negsuc, ◌*ℤ◌, ◌≤ℤ◌, ◌<ℤ◌, unsigned_abs, List, arith, inl, inr, lit<, refl, ◌+ℤ◌, FitsSigned, to_z, of_z}
+use Rattle.std.specs.Int.{w64}
 use Rattle.std.proofs.lemmas.Int.{ints, unsigned_abs-mul}
 use Rattle.std.proofs.lemmas.Bool.{cases_lt}
 use Rattle.std.proofs.lemmas.Nat.{mul-le}
@@ -37,3 +38,10 @@ push_small v u i laws allowed known =
           let nothing : unsigned_abs (weight v i) * (n * 1024) ≡ 0 = rw none (omega arith) in
           omega (arith, size, nothing))
     ]
+
+-- the sum of a population and a gain fits, and is what the machine gives
+pub gain_fits : (x z : ℤ) → unsigned_abs x ≤ 2 ^ 28 → unsigned_abs z < 2 ^ 15 → FitsSigned w64 (to_z w64 (of_z w64 x) +ℤ to_z w64 (of_z w64 z))
+gain_fits x z small_x small_z = omega (arith, ints)
+
+pub gain_is : (x z : ℤ) → unsigned_abs x ≤ 2 ^ 28 → unsigned_abs z < 2 ^ 15 → to_z w64 (of_z w64 (to_z w64 (of_z w64 x) +ℤ to_z w64 (of_z w64 z))) ≡ x +ℤ z
+gain_is x z small_x small_z = omega (arith, ints)

@@ -10,3 +10,4 @@ pub mod Local
 pub mod FirstLemmas
 pub mod States
 pub mod Worked
+mod ZeroMask

@@ -1,4 +1,4 @@
-use Rattle.std.specs.Prelude.{◌≡◌, ◌≢◌, ℕ, ◌<◌, ◌≤◌, Bool, not, ◌&&◌, nat_eq, List, length, ℤ, pos, unsigned_abs, slice_index, if◌then◌else◌, All}
+use Rattle.std.specs.Prelude.{◌≡◌, ◌≢◌, ℕ, ◌+◌, ◌<◌, ◌≤◌, Bool, not, ◌&&◌, nat_eq, nat_lt, nat_le, List, length, ℤ, pos, unsigned_abs, slice_index, if◌then◌else◌, All}
 use Rattle.std.specs.List.{list_any}
 use Rattle.std.specs.List.Sorted.{IsStrictlyIncreasing}
 use Rattle.lbm_space.specs.Sum.{sum_below}
@@ -30,6 +30,10 @@ is_solid case x = nat_eq (first_density case x) 0
 
 abbrev pub is_moving : FlowCase → ℕ → Bool
 is_moving case x = list_any (λ y. nat_eq x y) case.moving
+
+-- whether one of the n cells from x on moves
+abbrev pub any_moving : FlowCase → (x n : ℕ) → Bool
+any_moving case x n = list_any (λ y. nat_le x y && nat_lt y (x + n)) case.moving
 
 -- the cell from which direction i leads to cell x
 abbrev pub source : FlowCase → ℕ → ℕ → ℕ

@@ -1,4 +1,4 @@
--- What a pattern stands for.
+-- What a lattice stands for.
 use Rattle.std.specs.Prelude.{◌≡◌, ℕ, ◌+◌, Bool, IsTrue, Option, Some, None, Result, Ok, Err}
 use Rattle.lbm_model.specs.State.{FlowState}
 use Rattle.lbm_model.specs.Case.{FlowCase}

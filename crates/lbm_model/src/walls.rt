@@ -1,12 +1,30 @@
 //! What moving walls add.
 
-ghost use Rattle.std.specs.Prelude.{◌≡◌, ◌<◌, ◌≤◌, ◌^◌, unsigned_abs};
+ghost use Rattle.std.specs.Prelude.{◌≡◌, ◌<◌, ◌≤◌, ◌^◌, true, unsigned_abs};
 ghost use Rattle.lbm_space.specs.Torus.{cells};
-ghost use Rattle.lbm_model.specs.Case.{gain, cell_gain, all_gain};
+ghost use Rattle.lbm_model.specs.Case.{is_moving, gain, cell_gain, all_gain};
 
 use crate::case::Case;
 use lbm_cell::collision::push;
 use lbm_space::VelocitySet;
+
+/// What a cell that is a moving wall adds to what it sends in direction `dir`.
+pub fn moving_gain<V: VelocitySet>(case: &Case, cell: u32, dir: u32) -> i64
+    requires set { case.now.stencil ≡ V.stencil }
+    requires cell { cell < cells case.now.torus }
+    requires direction { dir < V.stencil.directions }
+    requires moves { is_moving case.now cell ≡ true }
+    ensures value { result ≡ gain case.now cell dir }
+    ensures size { unsigned_abs result < 2 ^ 15 }
+{
+    let dir = dir as usize;
+    let target = case.space().back::<V>(cell, V::opp(dir));
+    if !case.is_solid(target) {
+        push::<V>(&case.wall().parts(), dir)
+    } else {
+        0
+    }
+}
 
 /// What the cell adds to what it sends in direction `dir`: a moving wall adds its push toward a fluid cell, which is
 /// the weight of the direction times the inner product of its velocity and that of the wall, and nothing toward a
@@ -18,10 +36,8 @@ pub fn gain<V: VelocitySet>(case: &Case, cell: u32, dir: u32) -> i64
     ensures value { result ≡ gain case.now cell dir }
     ensures size { unsigned_abs result < 2 ^ 15 }
 {
-    let dir = dir as usize;
-    let target = case.space().back::<V>(cell, V::opp(dir));
-    if case.is_moving(cell) && !case.is_solid(target) {
-        push::<V>(&case.wall().parts(), dir)
+    if case.is_moving(cell) {
+        moving_gain::<V>(case, cell, dir)
     } else {
         0
     }

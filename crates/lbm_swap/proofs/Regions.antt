@@ -8,11 +8,11 @@ use Rattle.lbm_arrays.specs.Arrays.{array_size, held}
 use Rattle.lbm_arrays.specs.LentRanges.{IsLent, lent, slab_rows, AreInside, AreLent, IsForked}
 use Rattle.lbm_arrays.specs.declared.steps.Step.TheVariants.{Exchange}
 use Rattle.lbm_arrays.specs.Steps.{step_shifts}
-use Rattle.lbm_sweep.specs.First.{IsFirst}
+use Rattle.lbm_walk.specs.First.{IsFirst}
 use Rattle.lbm_sweep.specs.Sweep.{IsCollided}
 use Rattle.lbm_cell.specs.Rows.{entry}
 use Rattle.lbm_sweep.specs.Blocks.{IsTable}
-use Rattle.lbm_sweep.specs.Spans.{local}
+use Rattle.lbm_walk.specs.Places.{local}
 use Rattle.lbm_sweep.specs.Slabs.{Ranges, IsSlab, InColumns}
 use Rattle.lbm_sweep.specs.Regions.{range_slot, HasSlot, InEachSlab}
 use Rattle.lbm_sweep.proofs.Regions.{slot_entry, slab_is, region_collided}

@@ -5,9 +5,9 @@ use Rattle.lbm_space.specs.Torus.{Torus, IsSpace, rows as row_count}
 use Rattle.lbm_space.specs.Padded.{row_start}
 use Rattle.lbm_space.proofs.RowStarts.{row_start_rises}
 use Rattle.lbm_cell.specs.Rows.{entry}
-use Rattle.lbm_sweep.specs.Spans.{InRows, local}
+use Rattle.lbm_walk.specs.Places.{InRows, local}
 use Rattle.lbm_sweep.specs.Slabs.{Ranges}
-use Rattle.lbm_sweep.proofs.Places.{place_in_row, row_cells, local_within, local_distinct}
+use Rattle.lbm_walk.proofs.Places.{place_in_row, row_cells, local_within, local_distinct}
 use Rattle.lbm_swap.specs.Exchange.{IsPaired, IsExchangedIn}
 
 module _ (t : Torus) (space : IsSpace t) (rows : ℕ × ℕ) (inside : rows.1 ≤ row_count t) (q : ℕ) (partners : List ℕ) (paired : IsPaired q partners) where

@@ -8,12 +8,14 @@ use Rattle.lbm_space.specs.Padded.{padded_index, offset, place_ahead}
 use Rattle.lbm_space.proofs.Interior.{interior_index}
 use Rattle.lbm_space.proofs.Offsets.{offset-opposite, place_ahead_is}
 use Rattle.lbm_model.specs.Case.{FlowCase, IsCase, source, target}
-use Rattle.lbm_model.specs.Layout.{swap_layout}
-use Rattle.lbm_model.proofs.Neighbours.{source-target, target_known}
+use Rattle.lbm_model.specs.Layout.{population_in, state_in}
+use Rattle.lbm_model.proofs.Neighbours.{source-target, target-source, source_known, target_known}
+use Rattle.lbm_model.proofs.States.{state_by-same}
 use Rattle.lbm_arrays.specs.Arrays.{held}
 use Rattle.lbm_arrays.specs.Pads.{stand}
-use Rattle.lbm_arrays.proofs.Padding.{stand-interior, stand-ahead}
-use Rattle.lbm_sweep.specs.Steps.{IsSent}
+use Rattle.lbm_arrays.proofs.Padding.{stand-interior}
+use Rattle.lbm_lattice.specs.InPlace.{own_layout, turned_layout}
+use Rattle.lbm_lattice.proofs.InPlace.{stand-target}
 use Rattle.lbm_swap.specs.Exchange.{AreExchanged, loaded_place, met_place, sent_slot, slot_in}
 use Rattle.lbm_swap.proofs.Places.{met_ahead, met_own, loaded_stand, loaded_own, met_place_below}
 
@@ -32,12 +34,9 @@ module _ (case : FlowCase) (allowed : IsCase case) where
   abbrev v : Stencil
   v = case.stencil
 
-  -- a cell's own place stands for itself, and the place ahead of it for the cell to which the direction leads
+  -- a cell's own place stands for itself
   stand-own : (x : ℕ) → x < cells t → stand t (padded_index t x) ≡ padded_index t x
   stand-own x here = stand-interior t allowed.space (padded_index t x) (interior_index t allowed.space x here)
-
-  stand-target : (k x : ℕ) → k < v.directions → x < cells t → stand t (place_ahead t (velocity v k) x) ≡ padded_index t (target case x k)
-  stand-target k x known here = stand-ahead t allowed.space 2 k 1 v allowed.set (sym allowed.dimension) k known x here
 
   -- where direction i leads to, the opposite direction leads back from
   back_again : (i x : ℕ) → i < v.directions → x < cells t → target case (target case x i) (opposite v i) ≡ x
@@ -49,7 +48,7 @@ module _ (case : FlowCase) (allowed : IsCase case) where
       let turned = offset-opposite t allowed.space v allowed.set (sym allowed.dimension) i known in let alike = ap (λ (k : ℕ). offset t (velocity v k)) same in
       let ahead = place_ahead_is t allowed.space v allowed.set (sym allowed.dimension) i x known here in
       let at : place_ahead t (velocity v i) x ≡ padded_index t x = omega (arith, ints, turned, alike, ahead) in
-      sym (stand-target i x known here) ∙ ap (stand t) at ∙ stand-own x here
+      sym (stand-target case allowed i x known here) ∙ ap (stand t) at ∙ stand-own x here
 
   module _ (swept loaded exchanged stored : List ℤ) (loads : AreLoaded case swept loaded) (exchange : AreExchanged case loaded exchanged) (stores : AreStored case exchanged stored) where
     -- In the array of the lesser direction what a cell sends is exchanged ahead, and stored in the cell ahead.
@@ -60,7 +59,7 @@ module _ (case : FlowCase) (allowed : IsCase case) where
         let own = met_own t v o x off in
         let below = met_place_below t allowed.space v allowed.set (sym allowed.dimension) o x known_o here in
         let left : loaded_place t v o (met_place t v o x) ≡ padded_index t x = loaded_own t v o (met_place t v o x) off ∙ own in
-        ap (λ (p : ℕ). held stored (slot_in case i p)) (sym (ap (stand t) (met_ahead t v i x on) ∙ stand-target i x known here))
+        ap (λ (p : ℕ). held stored (slot_in case i p)) (sym (ap (stand t) (met_ahead t v i x on) ∙ stand-target case allowed i x known here))
         ∙ stores i x known here
         ∙ exchange.exchanged x i here known
         ∙ loads o (met_place t v o x) known_o below
@@ -75,7 +74,7 @@ module _ (case : FlowCase) (allowed : IsCase case) where
         let below = met_place_below t allowed.space v allowed.set (sym allowed.dimension) o y known_o there in
         let twice = allowed.set.opposite_twice i known in
         let from : loaded_place t v o (met_place t v o y) ≡ padded_index t x = elim (cases_Bool (ltb o (opposite v o))) [
-          | inl on ↦ loaded_stand t v o (met_place t v o y) on ∙ ap (stand t) (met_ahead t v o y on) ∙ stand-target o y known_o there ∙ ap (padded_index t) (back_again i x known here)
+          | inl on ↦ loaded_stand t v o (met_place t v o y) on ∙ ap (stand t) (met_ahead t v o y on) ∙ stand-target case allowed o y known_o there ∙ ap (padded_index t) (back_again i x known here)
           | inr off' ↦ (
               let same : o ≡ i = let low = ltb-false i o off in let low' = ltb-false o (opposite v o) off' in omega (arith, low, low', twice) in
               loaded_own t v o (met_place t v o y) off' ∙ met_own t v o y off' ∙ stays i x known here same)
@@ -86,5 +85,11 @@ module _ (case : FlowCase) (allowed : IsCase case) where
         ∙ loads o (met_place t v o y) known_o below
         ∙ ap (λ (p : ℕ). held swept (slot_in case o p)) from
 
-    pub passed_on : IsSent case swap_layout (sent_slot case) (held swept) stored
-    passed_on x i here known = elim (cases_Bool (ltb i (opposite v i))) [ inl on ↦ sent_ahead i x known here on | inr off ↦ sent_back i x known here off ]
+    sent_on : (i x : ℕ) → i < v.directions → x < cells t → held stored (slot_in case i (padded_index t (target case x i))) ≡ held swept (sent_slot case x i)
+    sent_on i x known here = elim (cases_Bool (ltb i (opposite v i))) [ inl on ↦ sent_ahead i x known here on | inr off ↦ sent_back i x known here off ]
+
+    -- what the cell behind has sent has arrived
+    pub passed_on : state_in case own_layout stored ≡ state_in case turned_layout swept
+    passed_on = state_by-same case (population_in case own_layout stored) (population_in case turned_layout swept) (λ x i here known.
+        let y = source case x i in
+        ap (λ (z : ℕ). held stored (slot_in case i (padded_index t z))) (sym (target-source case x i allowed here known)) ∙ sent_on i y known (source_known case x i allowed here known))

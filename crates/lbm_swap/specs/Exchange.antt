@@ -7,7 +7,7 @@ use Rattle.lbm_model.specs.Case.{FlowCase}
 use Rattle.lbm_arrays.specs.Arrays.{held}
 use Rattle.lbm_arrays.specs.Pads.{place_slot, stand}
 use Rattle.lbm_cell.specs.Rows.{entry}
-use Rattle.lbm_sweep.specs.Spans.{local}
+use Rattle.lbm_walk.specs.Places.{local}
 use Rattle.lbm_sweep.specs.Slabs.{Ranges, IsSlab}
 
 -- each of q arrays has a partner, whose partner it is

@@ -5,30 +5,43 @@ ghost use Rattle.lbm_cell.specs.Rows.{entry};
 ghost use Rattle.lbm_sweep.specs.Blocks.{IsSized};
 ghost use Rattle.lbm_swap.specs.Exchange.{IsPaired, IsReady, IsExchangedIn};
 
-use lbm_arrays::{Loan, PieceWork};
+use lbm_arrays::{Loan, Pass};
+use lbm_model::Case;
 use lbm_space::Space;
+use lbm_sweep::Directions;
 
-/// The work of a slab: at the place of each of its cells the range of an array and that of its partner exchange what they
-/// hold. An array that is its own partner stays as it is.
+/// The pass in which, at the place of each cell, the range of an array and that of its partner exchange what they hold. An
+/// array that is its own partner stays as it is.
 #[derive(Drop)]
-pub(crate) struct Exchange<'a> {
-    pub(crate) space: &'a Space,
-    pub(crate) partners: &'a [usize],
+pub struct Exchange {
+    pub(crate) space: Space,
+    pub(crate) partners: Directions,
 }
 
-impl PieceWork for Exchange<'_> {
-    ghost ready = { λ w piece rows ranges. IsReady w.space.now w.partners.now rows ranges };
+impl Pass for Exchange {
+    ghost ready = { λ w case read places piece rows ranges. IsReady w.space w.partners.items rows ranges };
 
-    ghost does = { λ w piece rows old answer new. (answer ≡ None) × IsExchangedIn w.space.now (length w.partners.now) w.partners.now rows (rows.0 * w.space.now.nx) (rows.1 * w.space.now.nx) old new };
+    ghost does = { λ w case read places piece rows old answer new. (answer ≡ None) × IsExchangedIn w.space (length w.partners.items) w.partners.items rows (rows.0 * w.space.nx) (rows.1 * w.space.nx) old new };
 
-    fn run(&self, _piece: u32, loan: &mut Loan<'_>) -> Option<u32> {
-        exchange_rows(self, loan);
+    fn run(&self, _: &Case, _: &[i64], _: &[u32], _: u32, loan: &mut Loan<'_>) -> Option<u32> {
+        let pairs = Pairs {
+            space: &self.space,
+            partners: self.partners.as_slice(),
+        };
+        exchange_rows(&pairs, loan);
         None
     }
 }
 
+// Which ranges exchange.
+#[derive(Drop)]
+struct Pairs<'a> {
+    space: &'a Space,
+    partners: &'a [usize],
+}
+
 // The cells of all rows of a slab.
-fn exchange_rows(work: &Exchange<'_>, loan: &mut Loan<'_>)
+fn exchange_rows(work: &Pairs<'_>, loan: &mut Loan<'_>)
     requires ready { IsReady work.now.space.now work.now.partners.now loan.old.rows loan.old.ranges }
     ensures done { IsExchangedIn work.now.space.now (length work.now.partners.now) work.now.partners.now loan.old.rows (loan.old.rows.0 * work.now.space.now.nx) (loan.old.rows.1 * work.now.space.now.nx) loan.old.ranges loan.new.ranges }
     ensures rows { loan.new.rows ≡ loan.old.rows }
@@ -41,7 +54,7 @@ fn exchange_rows(work: &Exchange<'_>, loan: &mut Loan<'_>)
 }
 
 // The cells of a row, by runs of eight cells and a shorter last one.
-fn exchange_row(work: &Exchange<'_>, loan: &mut Loan<'_>, row: u32)
+fn exchange_row(work: &Pairs<'_>, loan: &mut Loan<'_>, row: u32)
     requires ready { IsReady work.now.space.now work.now.partners.now loan.old.rows loan.old.ranges }
     requires row { (loan.old.rows.0 ≤ row) × (row < loan.old.rows.1) }
     ensures done { IsExchangedIn work.now.space.now (length work.now.partners.now) work.now.partners.now loan.old.rows (row * work.now.space.now.nx) ((row + 1) * work.now.space.now.nx) loan.old.ranges loan.new.ranges }

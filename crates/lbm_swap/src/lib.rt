@@ -11,4 +11,5 @@ mod padding;
 mod passes;
 mod swap;
 
-pub use swap::Swap;
+pub use exchange::Exchange;
+pub use swap::{Swap, SwapPasses};

@@ -2,9 +2,9 @@
 use Rattle.std.proofs.Common.{◌≡◌, ◌⊎◌, ℕ, zero, suc, ◌+◌, ◌<◌, ◌≤◌, min, ℤ, Bool, List, [], ◌∷◌, length, get_or, Option, Some, None, inl, inr, refl, ap, arith, subst}
 use Rattle.std.proofs.lemmas.Bool.{cases_lt}
 use Rattle.lbm_arrays.specs.Least.{lesser, least}
-use Rattle.lbm_sweep.specs.First.{IsFirst}
+use Rattle.lbm_walk.specs.First.{IsFirst}
 use Rattle.lbm_sweep.specs.Sweep.{IsCollided}
-use Rattle.lbm_sweep.proofs.Firsts.{first_none, first_later, first_earlier}
+use Rattle.lbm_walk.proofs.Firsts.{first_none, first_later, first_earlier}
 
 -- the part in which a number lies
 pub part_at : (B : ℕ → ℕ) (n x : ℕ) → B 0 ≤ x → x < B n → (s : ℕ) × (s < n) × (B s ≤ x) × (x < B (s + 1))

@@ -134,6 +134,15 @@ laid_again case layout r new same laid = record {
   base = laid.base;
 }
 
+-- two that are laid out alike differ in their slots alone
+pub laid_alike : (case : FlowCase) (layout : Layout) (r new : Arrays) → IsLaidOut case layout r → IsLaidOut case layout new → new ≡ record r { slots = new.slots }
+laid_alike case layout r new here there = λ i. record {
+  space = (there.space ∙ sym here.space) i;
+  count = (there.count ∙ sym here.count) i;
+  margin = (there.margin ∙ sym here.margin) i;
+  slots = new.slots;
+}
+
 pub region_again : (r new : Arrays) → new ≡ record r { slots = new.slots } → length new.slots ≡ length r.slots → IsRegion r → IsRegion new
 region_again r new same size region =
     let space : new.space ≡ r.space = ap (λ (a : Arrays). a.space) same in

@@ -1,8 +1,7 @@
 -- What cells take that take their populations from their own places, in each slab of a region.
-use Rattle.std.proofs.Common.{◌≡◌, ℕ, ℤ, ◌-◌, ◌*◌, ◌<◌, ◌≤◌, List, length, slice_index, refl, sym, ap, ◌∙◌, subst, arith}
+use Rattle.std.proofs.Common.{◌≡◌, ℕ, ℤ, ◌*◌, ◌<◌, List, length, slice_index, refl, sym, ap, ◌∙◌, subst, arith}
 use Rattle.lbm_space.specs.Stencil.{Stencil, IsVelocitySet}
 use Rattle.lbm_space.specs.Torus.{Torus, IsSpace, cells, rows as row_count}
-use Rattle.lbm_space.specs.Padded.{row_start}
 use Rattle.lbm_space.specs.Cuttings.{slabs_of, first_row, end_row, rows_of, IsCutting}
 use Rattle.lbm_arrays.specs.Arrays.{array_size, held}
 use Rattle.lbm_arrays.specs.LentRanges.{lent, slab_rows, AreInside}
@@ -11,11 +10,11 @@ use Rattle.lbm_arrays.specs.Steps.{step_shifts, HasRoom, touched}
 use Rattle.lbm_arrays.proofs.Moves.{length-shifts, shifts_inside}
 use Rattle.lbm_arrays.proofs.LentReads.{touched_at}
 use Rattle.lbm_cell.specs.Rows.{entry}
-use Rattle.lbm_sweep.specs.Blocks.{IsSized, IsTable}
-use Rattle.lbm_sweep.specs.Spans.{local}
+use Rattle.lbm_sweep.specs.Blocks.{IsTable}
+use Rattle.lbm_walk.specs.Places.{local}
 use Rattle.lbm_sweep.specs.Slabs.{IsSlab}
 use Rattle.lbm_sweep.specs.Regions.{range_slot, InEachSlab}
-use Rattle.lbm_sweep.proofs.Places.{row_known}
+use Rattle.lbm_walk.proofs.Places.{row_known}
 use Rattle.lbm_sweep.proofs.Regions.{slot_entry, slab_is}
 
 -- in a step's ranges, a cell's slot is the one that the step lets it touch
@@ -26,14 +25,6 @@ slot_touched t space v laws fits step base margin room k cell known here =
 
 module _ (t : Torus) (space : IsSpace t) (margin : ℕ) (shifts : List ℤ) (inside : AreInside t margin shifts) (q : ℕ) (count : length shifts ≡ q) (bounds : List ℕ) (cutting : IsCutting bounds) (fits : rows_of bounds ≡ row_count t)
     (slots : List ℤ) (whole : length slots ≡ q * array_size t margin) (reads : List ℕ) (table : IsTable q reads) (own : Torus) (same : own ≡ t) where
-  -- the source is ready
-  pub own_ready : q ≤ 27 → InEachSlab t margin shifts bounds slots (λ rows ranges cell.
-      IsSpace own × IsTable (length reads) reads × (length reads ≤ 27) × (rows.1 ≤ row_count own) × IsSized (length reads) (row_start own rows.1 - row_start own rows.0) ranges)
-  own_ready few k cell known here =
-      let slab = slab_is t space margin shifts inside q count bounds cutting fits slots whole k known in let rows = slab_rows bounds k in let ranges = lent t margin shifts rows slots in
-      subst (λ (p : Torus × ℕ). IsSpace p.0 × IsTable p.1 reads × (p.1 ≤ 27) × (rows.1 ≤ row_count p.0) × IsSized p.1 (row_start p.0 rows.1 - row_start p.0 rows.0) ranges) (λ i. (sym same i, sym table.count i))
-      (space, table, few, slab.inside, slab.sized)
-
   -- each cell takes what its slots hold
   pub own_taken : InEachSlab t margin shifts bounds slots (λ rows ranges cell. (i : ℕ) → i < q → entry ranges (slice_index reads i) (local own rows cell) ≡ held slots (range_slot t margin shifts (slice_index reads i) cell))
   own_taken k cell known here i less =

@@ -14,11 +14,11 @@ use Rattle.lbm_arrays.proofs.LentReads.{length-lent, length-lent_range, get-lent
 use Rattle.lbm_sweep.specs.Sweep.{IsCollided}
 use Rattle.lbm_cell.specs.Rows.{entry}
 use Rattle.lbm_sweep.specs.Blocks.{IsSized, IsTable}
-use Rattle.lbm_sweep.specs.Spans.{InRows, local}
+use Rattle.lbm_walk.specs.Places.{InRows, local}
 use Rattle.lbm_sweep.specs.Slabs.{Ranges, IsSlab, InColumns}
 use Rattle.lbm_sweep.specs.Regions.{range_slot, HasSlot, InEachSlab}
 use Rattle.lbm_sweep.proofs.Joined.{IsPart, parts_collide}
-use Rattle.lbm_sweep.proofs.Places.{local_within, rows_cells}
+use Rattle.lbm_walk.proofs.Places.{local_within, rows_cells}
 
 -- how many slots a region of q arrays has
 pub all_slots : (r : Arrays) (q : ℕ) → IsRegion r → r.count ≡ q → length r.slots ≡ q * array_size r.space r.margin

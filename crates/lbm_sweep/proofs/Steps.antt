@@ -13,9 +13,9 @@ use Rattle.lbm_cell.proofs.Agreement.{Agree}
 use Rattle.lbm_model.proofs.Local.{is_sound-agree, post-agree}
 use Rattle.lbm_model.proofs.Neighbours.{source_known, target-source}
 use Rattle.lbm_model.proofs.States.{state_by-same}
-use Rattle.lbm_sweep.specs.First.{IsFirst}
+use Rattle.lbm_walk.specs.First.{IsFirst}
 use Rattle.lbm_sweep.specs.Sweep.{IsCollided}
-use Rattle.lbm_sweep.specs.Steps.{IsTaken, IsSent, IsStep, SweepIsStep}
+use Rattle.lbm_sweep.specs.Steps.{IsTaken, IsWritten, IsSent, IsStep, SweepIsStep}
 
 -- the first of all numbers that fails a test is the least that fails another one that agrees
 pub first-least : (n : ℕ) (test other : ℕ → Bool) (answer : Option ℕ) → ((k : ℕ) → k < n → test k ≡ other k) → IsFirst test 0 n answer → answer ≡ least_failing n other
@@ -26,19 +26,29 @@ first-least n test other (Some k) same first =
     sym (least_failing-at n other k (record { known = known; failed = sym (same k known) ∙ found.2; passed = λ j below. sym (same j (omega arith)) ∙ first.passed j (omega arith) below }))
 
 -- a sweep that takes a state and sends on what its cells make of it is a step
-pub written_is_step : SweepIsStep
-written_is_step case s layout before writes new last answer allowed taken first written sent =
+pub swept_is_step : SweepIsStep
+swept_is_step case s before sent after answer allowed taken first made read =
     let alike : (x : ℕ) → x < cells case.torus → Agree case.stencil (before x) (population s x) = λ x here. record { same = λ i known. taken x i here known } in
     record {
       first = first-least (cells case.torus) (λ x. is_sound case x (before x)) (λ x. is_sound case x (population s x)) answer (λ x here. is_sound-agree case x (before x) (population s x) (alike x here)) first;
-      next = λ none. state_by-same case (population_in case layout last) (λ x i. post case (source case x i) (population s (source case x i)) i) (λ x i here known.
+      next = λ none. state_by-same case after (λ x i. post case (source case x i) (population s (source case x i)) i) (λ x i here known.
           let y = source case x i in
           let there : y < cells case.torus = source_known case x i allowed here known in
-          ap (λ (z : ℕ). population_in case layout last z i) (sym (target-source case x i allowed here known))
-          ∙ sent none y i there known
-          ∙ written none y i there known
+          ap (λ (z : ℕ). after z i) (sym (target-source case x i allowed here known))
+          ∙ read none y i there known
+          ∙ made none y i there known
           ∙ post-agree case y i (before y) (population s y) allowed.set (alike y there) known);
     }
+
+-- the same in the slots of a region
+pub written_is_step : (case : FlowCase) (s : FlowState) (layout : Layout) (before : ℕ → ℕ → ℤ) (writes : ℕ → ℕ → ℕ) (new : ℕ → ℤ) (last : List ℤ) (answer : Option ℕ)
+    → IsCase case
+    → IsTaken case s before
+    → IsFirst (λ x. is_sound case x (before x)) 0 (cells case.torus) answer
+    → (answer ≡ None → IsWritten case before writes new)
+    → (answer ≡ None → IsSent case layout writes new last)
+    → IsStep case s layout last answer
+written_is_step case s layout before writes new last answer = swept_is_step case s before (λ x i. new (writes x i)) (population_in case layout last) answer
 
 -- the same of the cells of a collision, whatever slots they touch
 pub sweep_is_step : (case : FlowCase) (s : FlowState) (layout : Layout) (before : ℕ → ℕ → ℤ) (writes : ℕ → ℕ → ℕ) (touches : ℕ → ℕ → Type 0) (old new : ℕ → ℤ) (last : List ℤ) (answer : Option ℕ)

@@ -1,12 +1,8 @@
--- The lanes of a block, direction by direction, and the ranges of a loan, array by array.
+-- The ranges of a loan, array by array, and tables of directions.
 use Rattle.std.specs.Prelude.{◌≡◌, ℕ, ◌<◌, List, [], length, ℤ, slice_index, slice_index_or}
 use Rattle.lbm_cell.specs.Rows.{entry}
 
--- lane j of the first n has the populations f j, of which a cell has q
-abbrev pub AreLanes : (q n : ℕ) (f : ℕ → ℕ → ℤ) (rows : List (List ℤ)) → Type 0
-AreLanes q n f rows = (i j : ℕ) → i < q → j < n → entry rows i j ≡ f j i
-
--- the same by slots, a slot being a row and a place
+-- what stands in a slot, a slot being a row and a place
 abbrev pub slots : List (List ℤ) → ℕ × ℕ → ℤ
 slots rows s = entry rows s.0 s.1
 

@@ -1,10 +1,8 @@
-pub mod First
 pub mod Blocks
+pub mod Held
 pub mod Sweep
-pub mod Spans
 pub mod Laws
 pub mod Slabs
 pub mod Regions
 pub mod Steps
 pub mod Lattices
-pub mod Falling

@@ -5,7 +5,7 @@ use Rattle.lbm_space.specs.Torus.{Torus}
 use Rattle.lbm_space.specs.Padded.{padded_index, row_start}
 use Rattle.lbm_space.specs.Cuttings.{slabs_of}
 use Rattle.lbm_arrays.specs.LentRanges.{range_start, lent, slab_rows}
-use Rattle.lbm_sweep.specs.Spans.{InRows}
+use Rattle.lbm_walk.specs.Places.{InRows}
 
 -- the slot of a cell in array k: its own place of the lent range
 abbrev pub range_slot : Torus → ℕ → List ℤ → ℕ → ℕ → ℕ

@@ -6,17 +6,16 @@ use Rattle.lbm_space.specs.Torus.{Torus, IsSpace, cells, rows as row_count}
 use Rattle.lbm_space.specs.Padded.{row_start}
 use Rattle.lbm_sweep.specs.Blocks.{slots, IsSized, IsTable}
 use Rattle.lbm_sweep.specs.Sweep.{IsCollided}
-use Rattle.lbm_sweep.specs.Spans.{InRows, local}
+use Rattle.lbm_walk.specs.Places.{InRows, local}
 
 abbrev pub Ranges : Type 0
 Ranges = List (List ℤ)
 
--- the rule of the cells and their source are of this space and of as many populations
-pub record IsMatched (t : Torus) (q : ℕ) (rule_cells : ℕ) (source_space : Torus) (source_directions : ℕ) (writes : List ℕ) : Type 0 where
+-- the rule of the cells and their source are of this space, and each population has an array to go to
+pub record IsMatched (t : Torus) (q : ℕ) (rule_cells : ℕ) (source_space : Torus) (writes : List ℕ) : Type 0 where
   pub space : IsSpace t
   pub cells : rule_cells ≡ cells t
   pub same_space : source_space ≡ t
-  pub same_directions : source_directions ≡ q
   pub few : q ≤ 27
   pub table : IsTable q writes
 

@@ -1,30 +1,49 @@
 //! The collision of the cells of a slab.
 
-ghost use Rattle.std.specs.Prelude.{◌*◌};
+ghost use Rattle.std.specs.Prelude.{◌≡◌, ◌*◌, ◌≤◌, unsigned_abs};
+ghost use Rattle.lbm_space.specs.Torus.{cells};
+ghost use Rattle.lbm_model.specs.Flow.{is_sound, post};
+ghost use Rattle.lbm_model.specs.Small.{size_limit};
 ghost use Rattle.lbm_sweep.specs.Slabs.{AreSmall, InColumns, IsMatched, IsSlab};
 
-use crate::row::collide_rows;
-use crate::{Kernel, Source};
-use lbm_arrays::{Loan, PieceWork};
-use lbm_space::Space;
-use std::marker::Sync;
+use crate::{Directions, SlabCall, Source};
+use lbm_arrays::{Loan, Pass};
+use lbm_model::Case;
+use lbm_rule::CellRule;
+use lbm_space::{Space, VelocitySet};
+use std::marker::PhantomData;
 
-/// The work of a slab: each of its cells takes its populations from the source and passes the rule, and what it sends in
-/// direction i goes to its own place in the range of array `writes[i]`. A slab answers its first cell out of limits.
+/// The pass in which the cells of a slab collide by the rule of the case: each takes its populations from the source, and
+/// what it sends in direction i goes to its own place in the range of array `writes[i]`. A slab answers its first cell out
+/// of limits.
 #[derive(Drop)]
-pub struct Collision<'a, K, S> {
-    pub kernel: &'a K,
-    pub source: &'a S,
-    pub space: &'a Space,
-    pub writes: &'a [usize],
+pub struct Collision<V, S> {
+    pub set: PhantomData<V>,
+    pub source: S,
+    pub space: Space,
+    pub writes: Directions,
 }
 
-impl<K: Kernel + Sync, S: Source + Sync> PieceWork for Collision<'_, K, S> {
-    ghost ready = { λ w piece rows ranges. IsMatched w.space.now K.directions (K.cells w.kernel.now) (S.space w.source.now) (S.directions w.source.now) w.writes.now × IsSlab w.space.now K.directions rows ranges × S.ready w.source.now rows ranges × AreSmall w.space.now K.directions (K.small w.kernel.now) (S.before w.source.now) rows ranges };
+impl<V: VelocitySet, S: Source<V>> Pass for Collision<V, S> {
+    ghost ready = { λ w case read places piece rows ranges. (case.stencil ≡ V.stencil) × IsMatched w.space V.stencil.directions (cells case.torus) (S.torus w.source) w.writes.items × S.spares w.source w.writes.items × IsSlab w.space V.stencil.directions rows ranges × S.ready w.source read places rows ranges × AreSmall w.space V.stencil.directions (λ x z. unsigned_abs z ≤ size_limit case x) (S.before w.source read places) rows ranges };
 
-    ghost does = { λ w piece rows old answer new. InColumns (K.sound w.kernel.now) (K.post w.kernel.now) K.directions (S.before w.source.now) w.writes.now w.space.now rows (rows.0 * w.space.now.nx) (rows.1 * w.space.now.nx) old new answer };
+    ghost does = { λ w case read places piece rows old answer new. InColumns (λ x f. is_sound case x f) (λ x f i. post case x f i) V.stencil.directions (S.before w.source read places) w.writes.items w.space rows (rows.0 * w.space.nx) (rows.1 * w.space.nx) old new answer };
 
-    fn run(&self, _piece: u32, loan: &mut Loan<'_>) -> Option<u32> {
-        collide_rows(self, loan)
+    fn run(
+        &self,
+        case: &Case,
+        read: &[i64],
+        places: &[u32],
+        _piece: u32,
+        loan: &mut Loan<'_>,
+    ) -> Option<u32> {
+        let rule = CellRule::<V>::of(case);
+        let call = SlabCall {
+            read,
+            places,
+            space: &self.space,
+            writes: self.writes.as_slice(),
+        };
+        self.source.collide(&rule, &call, loan)
     }
 }

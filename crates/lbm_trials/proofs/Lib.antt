@@ -1,1 +1,1 @@
-mod Masks
+mod Readings

@@ -5,7 +5,7 @@ ghost use Rattle.std.specs.Int.{w32};
 ghost use Rattle.lbm_walk.specs.Blocks.{lane};
 
 use lbm_cell::{Force, Rates};
-use lbm_lanes::{Block, collide_block};
+use lbm_lanes::{Block, Rule, collide_block};
 use lbm_space::{D2Q9, D3Q19};
 use std::test::Fail;
 
@@ -68,6 +68,7 @@ fn cell(block: &Block, j: usize) -> [i32; 9]
 fn each_lane_follows_its_own_rule(rt: HostRuntime) -> Result<(), Fail> {
     let rates = Rates::new(1, 1).ok_or("in range")?;
     let force = Force::new(1, 0, 0).ok_or("in range")?;
+    let rule = Rule::<D2Q9>::new(rates, force);
     let numbers = [-9, 10, -20, 30, -40, 50, -60, 70, -80];
     let mut rows = [[0; 8]; 27];
     put(&mut rows, 0, REST);
@@ -80,7 +81,7 @@ fn each_lane_follows_its_own_rule(rt: HostRuntime) -> Result<(), Fail> {
     rows[9] = [1, 2, 3, 4, 5, 6, 7, 8];
     let mut block = block_of(&rows);
     // Lane 3 is a solid cell, lanes 0, 2 and 7 are fluid cells in limits, and no mask has the others.
-    let answer = collide_block::<D2Q9>(&mut block, rates, force, 0b1000_0101, 0b0000_1010);
+    let answer = collide_block::<D2Q9>(&mut block, &rule, 0b1000_0101, 0b0000_1010);
     assert_eq!(rt; answer, None);
     assert_eq!(rt; cell(&block, 0), PUSHED);
     assert_eq!(rt; cell(&block, 1), [-9, 30, -40, 10, -20, 70, -80, 50, -60]);
@@ -120,6 +121,7 @@ fn two_rates_act_in_space_and_the_least_lane_out_of_limits_is_told(
 ) -> Result<(), Fail> {
     let rates = Rates::trt(5, 3, 4).ok_or("in range")?;
     let force = Force::new(3, -2, 1).ok_or("in range")?;
+    let rule = Rule::<D3Q19>::new(rates, force);
     let mut rows = [[0; 8]; 27];
     // Lanes 1, 4 and 7 are the mixed cell, lane 2 is empty, and lane 5 has one population below zero.
     for i in 0..19 {
@@ -129,7 +131,7 @@ fn two_rates_act_in_space_and_the_least_lane_out_of_limits_is_told(
     rows[18] = [24576, 24576, 0, 24576, 24576, -1, 24576, 24576];
     let mut block = block_of(&rows);
     let before = block;
-    let answer = collide_block::<D3Q19>(&mut block, rates, force, 0b1011_0110, 0b0000_1000);
+    let answer = collide_block::<D3Q19>(&mut block, &rule, 0b1011_0110, 0b0000_1000);
     assert_eq!(rt; answer, Some(2));
     for i in 0..19 {
         let old = before.lanes(i as u32);
@@ -156,14 +158,15 @@ fn two_rates_act_in_space_and_the_least_lane_out_of_limits_is_told(
 fn without_masks_nothing_changes(rt: HostRuntime) -> Result<(), Fail> {
     let rates = Rates::new(1, 1).ok_or("in range")?;
     let force = Force::new(1, 0, 0).ok_or("in range")?;
+    let rule = Rule::<D2Q9>::new(rates, force);
     let mut rows = [[0; 8]; 27];
     rows[0] = [-2147483648, 2147483647, 0, 1, 2, 3, 4, 5];
     let mut block = block_of(&rows);
     let before = block;
-    assert_eq!(rt; collide_block::<D2Q9>(&mut block, rates, force, 0, 0), None);
+    assert_eq!(rt; collide_block::<D2Q9>(&mut block, &rule, 0, 0), None);
     assert_eq!(rt; block, before);
     assert_eq!(rt;
-        collide_block::<D2Q9>(&mut block, rates, force, 0b1111_0000, 0),
+        collide_block::<D2Q9>(&mut block, &rule, 0b1111_0000, 0),
         Some(4)
     );
     assert_eq!(rt; block, before);

@@ -5,4 +5,5 @@
 mod behind;
 mod two;
 
-pub use two::Two;
+pub use behind::Behind;
+pub use two::{Two, TwoLattices};

@@ -1,1 +1,5 @@
 pub mod Turns
+pub mod Firsts
+pub mod Orders
+pub mod Parts
+pub mod Places

@@ -61,6 +61,11 @@ impl<V: VelocitySet> Rows<V> for Block {
     }
 
     #[inline(always)]
+    fn sent(&self, dir: usize) -> [i64; 8] {
+        self.rows[dir]
+    }
+
+    #[inline(always)]
     fn put(&mut self, dir: usize, lanes: [i64; 8]) {
         self.rows[dir] = lanes;
     }

@@ -10,10 +10,11 @@ use Rattle.lbm_words.specs.declared.end.WordsEnd.{WordsEnd}
 use Rattle.lbm_words.specs.declared.request.PatternKind.TheVariants.{Aa}
 use Rattle.lbm_words.specs.Ends.{Gives}
 use Rattle.lbm_words.specs.Names.{pattern_named}
-use Rattle.lbm_words.specs.Numbers.{number_of, number_between, numbers_of, each, is_comma}
-use Rattle.lbm_words.specs.Commands.{run_app, check_app, demo_app}
-use Rattle.lbm_words.specs.Request.{IsChoice, IsRequest}
-use Rattle.lbm_words.specs.Words.{◌>>=◌, demand, required, optional, steps_of, format_of, choice_of, is_other, run_of, check_of, demo_of, taken, run_asked, check_asked, demo_asked}
+use Rattle.lbm_number.specs.Number.{number_of}
+use Rattle.lbm_words.specs.Numbers.{number_between, numbers_of, each, is_comma}
+use Rattle.lbm_words.specs.Commands.{run_app, check_app, demo_app, voxels_app}
+use Rattle.lbm_words.specs.Request.{IsChoice, IsRun, IsRequest, run}
+use Rattle.lbm_words.specs.Words.{◌>>=◌, demand, required, optional, steps_of, format_of, choice_of, is_other, run_of, check_of, demo_of, voxels_of, taken, run_asked, check_asked, demo_asked, voxels_asked}
 
 first_true : (a b : Bool) → (a && b) ≡ true → a ≡ true
 first_true true b both = refl
@@ -48,6 +49,10 @@ IfSome-test false x P holds = tt
 IfSome-and_then : {A B : Type 0} (form : A → Option B) (o : Option A) (P : B → Type 0) → ((x : A) → IfSome (form x) P) → IfSome (option_and_then form o) P
 IfSome-and_then form None P holds = tt
 IfSome-and_then form (Some x) P holds = holds x
+
+IfSome-option_map : {A B : Type 0} (f : A → B) (o : Option A) (P : A → Type 0) (Q : B → Type 0) → IfSome o P → ((x : A) → P x → Q (f x)) → IfSome (option_map f o) Q
+IfSome-option_map f None P Q holds next = tt
+IfSome-option_map f (Some x) P Q holds next = next x holds
 
 -- ---- numbers
 
@@ -132,22 +137,22 @@ is_other-differs name None test = tt
 is_other-differs name (Some text) test =
     λ same. true≢false (sym test ∙ ap not ((bytes_eq-Decides text name).1 same))
 
-run_of-ranges : (rows : List Row) → IfSome (run_of rows) IsRequest
+run_of-ranges : (rows : List Row) → IfSome (run_of rows) IsRun
 unfolding run_of
 run_of-ranges rows =
     let save = first_of (codes "save") rows in
-    IfSome-pass (first_of (codes "case") rows) _ IsRequest
+    IfSome-pass (first_of (codes "case") rows) _ IsRun
     (λ case.
-    IfSome-bind (steps_of rows) _ (IsBetween 0 1000000) IsRequest (required-range 0 1000000 (codes "steps") rows)
+    IfSome-bind (steps_of rows) _ (IsBetween 0 1000000) IsRun (required-range 0 1000000 (codes "steps") rows)
     (λ steps few_steps.
-    IfSome-pass (first_of (codes "out") rows) _ IsRequest
+    IfSome-pass (first_of (codes "out") rows) _ IsRun
     (λ out.
-    IfSome-bind (choice_of rows) _ IsChoice IsRequest (choice_of-ranges rows)
+    IfSome-bind (choice_of rows) _ IsChoice IsRun (choice_of-ranges rows)
     (λ choice choice_is.
-    IfSome-pass (format_of rows) _ IsRequest
+    IfSome-pass (format_of rows) _ IsRun
     (λ format.
     let distinct = is_other case (Some out) && is_other case save && is_other out save in
-    IfSome-bind (demand distinct) _ (λ _. distinct ≡ true) IsRequest (IfSome-demand distinct)
+    IfSome-bind (demand distinct) _ (λ _. distinct ≡ true) IsRun (IfSome-demand distinct)
     (λ _ differ. record {
       few_steps = few_steps.1;
       choice = choice_is;
@@ -155,6 +160,21 @@ run_of-ranges rows =
       save_is_not_out = is_other-differs out save (second_true (is_other case (Some out) && is_other case save) _ differ);
       save_is_not_case = is_other-differs case save (second_true (is_other case (Some out)) _ (first_true _ (is_other out save) differ));
     }))))))
+
+voxels_of-ranges : (rows : List Row) → IfSome (voxels_of rows) IsRequest
+unfolding voxels_of
+voxels_of-ranges rows =
+    IfSome-pass (first_of (codes "file") rows) _ IsRequest
+    (λ file.
+    IfSome-bind (run_of rows) _ IsRun IsRequest (run_of-ranges rows)
+    (λ r is.
+    let distinct = is_other file (Some r.out) && is_other file r.save in
+    IfSome-bind (demand distinct) _ (λ _. distinct ≡ true) IsRequest (IfSome-demand distinct)
+    (λ _ differ. record {
+      run = is;
+      out_is_not_file = is_other-differs file (Some r.out) (first_true _ (is_other file r.save) differ);
+      save_is_not_file = is_other-differs file r.save (second_true (is_other file (Some r.out)) _ differ);
+    })))
 
 check_of-ranges : (rows : List Row) → IfSome (check_of rows) IsRequest
 unfolding check_of
@@ -185,11 +205,15 @@ demo_of-ranges rows =
 
 pub run_asked-ranges : (words : List Text) → IfSome (run_asked words) IsRequest
 unfolding run_asked
-run_asked-ranges words = IfSome-pass (taken run_app words) run_of IsRequest run_of-ranges
+run_asked-ranges words = IfSome-option_map run (taken run_app words >>= run_of) IsRun IsRequest (IfSome-pass (taken run_app words) run_of IsRun run_of-ranges) (λ r is. is)
 
 pub check_asked-ranges : (words : List Text) → IfSome (check_asked words) IsRequest
 unfolding check_asked
 check_asked-ranges words = IfSome-pass (taken check_app words) check_of IsRequest check_of-ranges
+
+pub voxels_asked-ranges : (words : List Text) → IfSome (voxels_asked words) IsRequest
+unfolding voxels_asked
+voxels_asked-ranges words = IfSome-pass (taken voxels_app words) voxels_of IsRequest voxels_of-ranges
 
 pub demo_asked-ranges : (words : List Text) → IfSome (demo_asked words) IsRequest
 unfolding demo_asked

@@ -5,10 +5,11 @@ use Rattle.std.specs.List.{list_all}
 use Rattle.clap.proofs.OnLiterals.{clap_on_literals}
 use Rattle.lbm_vtk.specs.declared.Format.TheVariants.{Ascii, Binary}
 use Rattle.lbm_words.specs.declared.request.PatternKind.TheVariants.{Aa, Tiles}
-use Rattle.lbm_words.specs.Numbers.{number_of, numbers_of}
-use Rattle.lbm_words.specs.Commands.{run_app, check_app, demo_app}
-use Rattle.lbm_words.specs.Request.{run, check}
-use Rattle.lbm_words.specs.Words.{request_of, run_asked, check_asked, demo_asked, run_of, check_of, demo_of, choice_of}
+use Rattle.lbm_number.specs.Number.{number_of}
+use Rattle.lbm_words.specs.Numbers.{numbers_of}
+use Rattle.lbm_words.specs.Commands.{run_app, check_app, demo_app, voxels_app}
+use Rattle.lbm_words.specs.Request.{run, check, voxels}
+use Rattle.lbm_words.specs.Words.{request_of, run_asked, check_asked, demo_asked, voxels_asked, run_of, check_of, demo_of, voxels_of, choice_of}
 
 plain_run : request_of (codes "run" ∷ codes "c" ∷ codes "5" ∷ codes "o" ∷ []) ≡ Some (run (record {
   case = codes "c";
@@ -38,6 +39,21 @@ plain_check : request_of (codes "check" ∷ codes "c" ∷ []) ≡ Some (check (r
 unfolding request_of check_asked check_app check_of number_of numbers_of clap_on_literals
 plain_check = refl
 
+plain_voxels : request_of (codes "voxels" ∷ codes "v" ∷ codes "c" ∷ codes "--save" ∷ codes "s" ∷ codes "5" ∷ codes "o" ∷ []) ≡ Some (voxels (record {
+  file = codes "v";
+  run = record {
+    case = codes "c";
+    steps = 5;
+    out = codes "o";
+    choice = record { pattern = Aa; workers = 1; cut = None; tile = 8 };
+    resume = None;
+    save = Some (codes "s");
+    format = Ascii;
+  };
+}))
+unfolding request_of voxels_asked voxels_app voxels_of run_of choice_of number_of numbers_of clap_on_literals
+plain_voxels = refl
+
 wrong_uses : List (List (List ℕ))
 wrong_uses =
     []
@@ -54,8 +70,12 @@ wrong_uses =
     ∷ (codes "run" ∷ codes "c" ∷ codes "5" ∷ codes "o" ∷ codes "--tile" ∷ codes "8" ∷ codes "--tile" ∷ codes "8" ∷ [])
     ∷ (codes "check" ∷ codes "c" ∷ codes "--tile" ∷ codes "8" ∷ [])
     ∷ (codes "run" ∷ codes "c" ∷ codes "5" ∷ codes "o" ∷ codes "-h" ∷ [])
+    ∷ (codes "voxels" ∷ codes "c" ∷ codes "5" ∷ codes "o" ∷ [])
+    ∷ (codes "voxels" ∷ codes "v" ∷ codes "c" ∷ codes "5" ∷ codes "v" ∷ [])
+    ∷ (codes "voxels" ∷ codes "v" ∷ codes "c" ∷ codes "5" ∷ codes "c" ∷ [])
+    ∷ (codes "voxels" ∷ codes "v" ∷ codes "c" ∷ codes "5" ∷ codes "o" ∷ codes "--save" ∷ codes "v" ∷ [])
     ∷ []
 
 all_refused : list_all (λ words. is_none (request_of words)) wrong_uses ≡ true
-unfolding request_of run_asked check_asked demo_asked run_app check_app demo_app run_of check_of demo_of choice_of number_of numbers_of clap_on_literals wrong_uses
+unfolding request_of run_asked check_asked demo_asked voxels_asked run_app check_app demo_app voxels_app run_of check_of demo_of voxels_of choice_of number_of numbers_of clap_on_literals wrong_uses
 all_refused = refl

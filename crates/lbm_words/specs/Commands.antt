@@ -28,10 +28,12 @@ command_of name positionals options = with_rules (with_rules (bare name) (map po
 abbrev pub choice_options : List Text
 choice_options = codes "pattern" ∷ codes "workers" ∷ codes "cut" ∷ codes "tile" ∷ []
 
+-- the options of a run of a case file
+abbrev pub run_options : List Text
+run_options = choice_options ++ codes "resume" ∷ codes "save" ∷ codes "format" ∷ []
+
 unfoldable pub run_app : App
-run_app =
-    command_of (codes "run") (codes "case" ∷ codes "steps" ∷ codes "out" ∷ [])
-    (choice_options ++ codes "resume" ∷ codes "save" ∷ codes "format" ∷ [])
+run_app = command_of (codes "run") (codes "case" ∷ codes "steps" ∷ codes "out" ∷ []) run_options
 
 unfoldable pub check_app : App
 check_app = command_of (codes "check") (codes "case" ∷ []) []
@@ -40,3 +42,6 @@ unfoldable pub demo_app : App
 demo_app =
     command_of (codes "demo") (codes "n" ∷ codes "steps" ∷ codes "out" ∷ [])
     (choice_options ++ codes "save" ∷ codes "format" ∷ [])
+
+unfoldable pub voxels_app : App
+voxels_app = command_of (codes "voxels") (codes "file" ∷ codes "case" ∷ codes "steps" ∷ codes "out" ∷ []) run_options

@@ -1,13 +1,7 @@
 -- The numbers of the command line.
 use Rattle.std.specs.Prelude.{ℕ, List, [], ◌∷◌, length, Bool, ◌&&◌, ◌==◌, nat_le, if◌then◌else◌, Option, Some, None, option_and_then, option_map}
-use Rattle.std.specs.Char.{is_ascii_digit}
-use Rattle.std.specs.List.{list_all, slice_split}
-use Rattle.std.specs.Str.Parse.{digits_value}
-
--- a number is 1 to 9 decimal digits and nothing else
-unfoldable pub number_of : List ℕ → Option ℕ
-number_of text =
-    if nat_le 1 (length text) && nat_le (length text) 9 && list_all is_ascii_digit text then Some (digits_value 10 text) else None
+use Rattle.std.specs.List.{slice_split}
+use Rattle.lbm_number.specs.Number.{number_of}
 
 -- a number from low to high
 abbrev pub number_between : ℕ → ℕ → List ℕ → Option ℕ

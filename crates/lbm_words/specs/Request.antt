@@ -6,6 +6,7 @@ use Rattle.lbm_words.specs.declared.request.Choice.{Choice as CodeChoice}
 use Rattle.lbm_words.specs.declared.request.Run.{Run as CodeRun}
 use Rattle.lbm_words.specs.declared.request.Check.{Check as CodeCheck}
 use Rattle.lbm_words.specs.declared.request.Demo.{Demo as CodeDemo}
+use Rattle.lbm_words.specs.declared.request.Voxels.{Voxels as CodeVoxels}
 use Rattle.lbm_words.specs.declared.request.Request.{Request as CodeRequest}
 use Rattle.lbm_words.specs.declared.request.Request.TheVariants as code
 
@@ -41,10 +42,16 @@ pub record Demo : Type 0 where
   pub save : Option (List ℕ)
   pub format : Format
 
+-- a run of the case in a file in the geometry of a voxel file
+pub record Voxels : Type 0 where
+  pub file : List ℕ
+  pub run : Run
+
 pub data Request : Type 0 where
   run : Run → Request
   check : Check → Request
   demo : Demo → Request
+  voxels : Voxels → Request
 
 -- what the values of the code stand for
 abbrev pub choice_view : CodeChoice → Choice
@@ -74,10 +81,14 @@ demo_view r = record {
   format = r.format;
 }
 
+abbrev pub voxels_view : CodeVoxels → Voxels
+voxels_view v = record { file = v.file.now; run = run_view v.run }
+
 abbrev pub request_view : CodeRequest → Request
 request_view (code.Run r) = run (run_view r)
 request_view (code.Check r) = check (check_view r)
 request_view (code.Demo r) = demo (demo_view r)
+request_view (code.Voxels r) = voxels (voxels_view r)
 
 -- the ranges of the numbers
 pub record IsChoice (c : Choice) : Type 0 where
@@ -102,7 +113,13 @@ pub record IsDemo (r : Demo) : Type 0 where
   pub choice : IsChoice r.choice
   pub save_is_not_out : IfSome r.save (λ save. save ≢ r.out)
 
+pub record IsVoxels (v : Voxels) : Type 0 where
+  pub run : IsRun v.run
+  pub out_is_not_file : v.run.out ≢ v.file
+  pub save_is_not_file : IfSome v.run.save (λ save. save ≢ v.file)
+
 abbrev pub IsRequest : Request → Type 0
 IsRequest (run r) = IsRun r
 IsRequest (check r) = Unit {0}
 IsRequest (demo r) = IsDemo r
+IsRequest (voxels v) = IsVoxels v

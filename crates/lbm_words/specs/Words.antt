@@ -12,8 +12,8 @@ use Rattle.lbm_vtk.specs.declared.Format.TheVariants.{Ascii}
 use Rattle.lbm_words.specs.declared.request.PatternKind.TheVariants.{Aa}
 use Rattle.lbm_words.specs.Numbers.{number_between, numbers_of}
 use Rattle.lbm_words.specs.Names.{pattern_named, format_named}
-use Rattle.lbm_words.specs.Commands.{run_app, check_app, demo_app}
-use Rattle.lbm_words.specs.Request.{Choice, Request, run, check, demo}
+use Rattle.lbm_words.specs.Commands.{run_app, check_app, demo_app, voxels_app}
+use Rattle.lbm_words.specs.Request.{Choice, Run, Request, run, check, demo, voxels}
 
 -- what is read goes on to f, and a refusal ends the reading
 infixl 10 ◌>>=◌
@@ -55,7 +55,7 @@ abbrev pub is_other : Text → Option Text → Bool
 is_other name other = option_map_or (λ text. not (bytes_eq text name)) other true
 
 -- the run that the values ask for, where the names of the case, the result and the saved file are different
-unfoldable pub run_of : List Row → Option Request
+unfoldable pub run_of : List Row → Option Run
 run_of rows = do
   case ← first_of (codes "case") rows
   steps ← steps_of rows
@@ -63,7 +63,7 @@ run_of rows = do
   choice ← choice_of rows
   format ← format_of rows
   distinct ← demand (is_other case (Some out) && is_other case save && is_other out save)
-  Some (run (record { case = case; steps = steps; out = out; choice = choice; resume = resume; save = save; format = format }))
+  Some (record { case = case; steps = steps; out = out; choice = choice; resume = resume; save = save; format = format })
   where
     resume : Option Text
     resume = first_of (codes "resume") rows
@@ -91,6 +91,15 @@ demo_of rows = do
     save : Option Text
     save = first_of (codes "save") rows
 
+-- the run in the geometry of a voxel file that the values ask for, where the names of the result and the saved file are
+-- others than that of the voxel file too
+unfoldable pub voxels_of : List Row → Option Request
+voxels_of rows = do
+  file ← first_of (codes "file") rows
+  r ← run_of rows
+  distinct ← demand (is_other file (Some r.out) && is_other file r.save)
+  Some (voxels (record { file = file; run = r }))
+
 -- what the matches of a parse hold
 abbrev pub rows_in : ArgMatches → List Row
 rows_in matches = rows_of (found_of matches)
@@ -101,13 +110,16 @@ taken app words = if is_empty (fault_of app words) then Some (matches_of app wor
 
 -- what the words ask for as words of a command
 unfoldable pub run_asked : List Text → Option Request
-run_asked words = taken run_app words >>= run_of
+run_asked words = option_map run (taken run_app words >>= run_of)
 
 unfoldable pub check_asked : List Text → Option Request
 check_asked words = taken check_app words >>= check_of
 
 unfoldable pub demo_asked : List Text → Option Request
 demo_asked words = taken demo_app words >>= demo_of
+
+unfoldable pub voxels_asked : List Text → Option Request
+voxels_asked words = taken voxels_app words >>= voxels_of
 
 -- the first word is the command; the words of the command begin with it
 unfoldable pub request_of : List Text → Option Request
@@ -116,4 +128,5 @@ request_of (name ∷ rest) =
     if bytes_eq name (codes "run") then run_asked (name ∷ rest)
     else if bytes_eq name (codes "check") then check_asked (name ∷ rest)
     else if bytes_eq name (codes "demo") then demo_asked (name ∷ rest)
+    else if bytes_eq name (codes "voxels") then voxels_asked (name ∷ rest)
     else None

@@ -2,7 +2,7 @@
 
 ghost use Rattle.std.specs.Prelude.{◌≡◌, map, false, IfOk};
 ghost use Rattle.clap.specs.Words.{app_of, rule_of};
-ghost use Rattle.lbm_words.specs.Commands.{positional, option, with_rules, command_of, run_app, check_app, demo_app};
+ghost use Rattle.lbm_words.specs.Commands.{positional, option, with_rules, command_of, run_options, run_app, check_app, demo_app, voxels_app};
 
 use clap::{Arg, ArgAction, Command};
 use std::alloc::{AllocError, Global};
@@ -69,15 +69,26 @@ fn command_of<'a>(
     with_options(alloc, positioned, options)
 }
 
+/// A command with these positional words and the options of a run of a case file.
+fn with_run_options<'a>(
+    alloc: Global,
+    name: &'a str,
+    positionals: &[&'a str],
+) -> Result<Command<'a>, AllocError>
+    ensures { IfOk result (λ command. app_of command ≡ command_of name.entry.now (map (λ name. name.now) positionals.now) run_options) }
+{
+    let options = [
+        "pattern", "workers", "cut", "tile", "resume", "save", "format",
+    ];
+    command_of(alloc, name, positionals, &options)
+}
+
 /// `run CASE STEPS OUT`.
 #[tactic(auto, unfolding(crate::specs::Commands::run_app))]
 pub(crate) fn run_command<'a>(alloc: Global) -> Result<Command<'a>, AllocError>
     ensures { IfOk result (λ command. app_of command ≡ run_app) }
 {
-    let options = [
-        "pattern", "workers", "cut", "tile", "resume", "save", "format",
-    ];
-    command_of(alloc, "run", &["case", "steps", "out"], &options)
+    with_run_options(alloc, "run", &["case", "steps", "out"])
 }
 
 /// `check CASE`.
@@ -95,4 +106,12 @@ pub(crate) fn demo_command<'a>(alloc: Global) -> Result<Command<'a>, AllocError>
 {
     let options = ["pattern", "workers", "cut", "tile", "save", "format"];
     command_of(alloc, "demo", &["n", "steps", "out"], &options)
+}
+
+/// `voxels FILE CASE STEPS OUT`.
+#[tactic(auto, unfolding(crate::specs::Commands::voxels_app))]
+pub(crate) fn voxels_command<'a>(alloc: Global) -> Result<Command<'a>, AllocError>
+    ensures { IfOk result (λ command. app_of command ≡ voxels_app) }
+{
+    with_run_options(alloc, "voxels", &["file", "case", "steps", "out"])
 }

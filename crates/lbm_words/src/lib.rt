@@ -11,4 +11,4 @@ mod values;
 
 pub use end::WordsEnd;
 pub use read::request_of;
-pub use request::{Check, Choice, Demo, PatternKind, Request, Run};
+pub use request::{Check, Choice, Demo, PatternKind, Request, Run, Voxels};

@@ -1,38 +1,22 @@
 //! The numbers of the command line.
 
 ghost use Rattle.std.specs.Prelude.{◌≡◌, map, IfOk};
-ghost use Rattle.std.specs.Char.{is_ascii_digit};
-ghost use Rattle.std.specs.List.{list_all, slice_split};
+ghost use Rattle.std.specs.List.{slice_split};
+ghost use Rattle.lbm_number.specs.Number.{number_of};
 ghost use Rattle.lbm_words.specs.Ends.{Gives};
-ghost use Rattle.lbm_words.specs.Numbers.{number_of, number_between, numbers_of, each, is_comma};
+ghost use Rattle.lbm_words.specs.Numbers.{number_between, numbers_of, each, is_comma};
 
 use crate::end::WordsEnd;
+use lbm_number::number_of;
 use std::alloc::{AllocError, Global};
 
 const MOST_CUTS: usize = 4095;
-
-fn has_only_digits(text: &[u8]) -> bool
-    ensures { result ≡ list_all is_ascii_digit text.now }
-{
-    text.iter().all(|byte| byte.is_ascii_digit())
-}
-
-/// A number: 1 to 9 decimal digits and nothing else.
-#[tactic(auto, unfolding(crate::specs::Numbers::number_of))]
-pub(crate) fn number_of(text: &str) -> Option<u32>
-    ensures { result ≡ number_of text.now }
-{
-    if text.is_empty() || text.len() > 9 || !has_only_digits(text.as_bytes()) {
-        return None;
-    }
-    text.parse::<u32>().ok()
-}
 
 /// A number from `low` to `high`.
 pub(crate) fn number_between(low: u32, high: u32, text: &str) -> Option<u32>
     ensures { result ≡ number_between low high text.now }
 {
-    match number_of(text) {
+    match number_of(text.as_bytes()) {
         Some(n) if low <= n && n <= high => Some(n),
         _ => None,
     }
@@ -51,7 +35,7 @@ fn each_number(alloc: Global, texts: &[&str]) -> Result<Vec<u32>, WordsEnd>
 {
     let mut numbers = Vec::new(alloc);
     for text in texts {
-        let number = number_of(text).ok_or(WordsEnd::Usage)?;
+        let number = number_of(text.as_bytes()).ok_or(WordsEnd::Usage)?;
         numbers.push(number)?;
     }
     Ok(numbers)

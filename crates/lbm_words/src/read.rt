@@ -3,12 +3,12 @@
 ghost use Rattle.std.specs.Prelude.{◌≡◌, map, string_bytes, true, IfOk};
 ghost use Rattle.clap.specs.Words.{app_of, is_simple_and_free};
 ghost use Rattle.lbm_words.specs.Ends.{Gives};
-ghost use Rattle.lbm_words.specs.Request.{request_view, IsRequest};
-ghost use Rattle.lbm_words.specs.Words.{rows_in, taken, run_of, check_of, demo_of, run_asked, check_asked, demo_asked, request_of};
+ghost use Rattle.lbm_words.specs.Request.{run_view, request_view, IsRequest};
+ghost use Rattle.lbm_words.specs.Words.{rows_in, taken, run_of, check_of, demo_of, voxels_of, run_asked, check_asked, demo_asked, voxels_asked, request_of};
 
-use crate::commands::{check_command, demo_command, run_command};
+use crate::commands::{check_command, demo_command, run_command, voxels_command};
 use crate::end::WordsEnd;
-use crate::request::{Check, Demo, Request, Run};
+use crate::request::{Check, Demo, Request, Run, Voxels};
 use crate::values::{choice_of, format_of, is_other, required_number, steps_of, text_of, value};
 use clap::{ArgMatches, Command};
 use std::alloc::Global;
@@ -26,8 +26,8 @@ fn taken<'a>(command: Command<'a>, words: &'a [String]) -> Result<ArgMatches<'a>
 
 /// The run that the values ask for.
 #[tactic(auto, unfolding(crate::specs::Words::run_of))]
-fn run_of<'a>(alloc: Global, matches: &ArgMatches<'a>) -> Result<Request<'a>, WordsEnd>
-    ensures { Gives request_view result (run_of (rows_in matches.now)) }
+fn run_of<'a>(alloc: Global, matches: &ArgMatches<'a>) -> Result<Run<'a>, WordsEnd>
+    ensures { Gives run_view result (run_of (rows_in matches.now)) }
 {
     let case = text_of(matches, "case")?;
     let steps = steps_of(matches)?;
@@ -39,7 +39,7 @@ fn run_of<'a>(alloc: Global, matches: &ArgMatches<'a>) -> Result<Request<'a>, Wo
     if case == out || !is_other(case, save) || !is_other(out, save) {
         return Err(WordsEnd::Usage);
     }
-    Ok(Request::Run(Run {
+    Ok(Run {
         case,
         steps,
         out,
@@ -47,7 +47,7 @@ fn run_of<'a>(alloc: Global, matches: &ArgMatches<'a>) -> Result<Request<'a>, Wo
         resume,
         save,
         format,
-    }))
+    })
 }
 
 /// The check that the values ask for.
@@ -83,6 +83,19 @@ fn demo_of<'a>(alloc: Global, matches: &ArgMatches<'a>) -> Result<Request<'a>, W
     }))
 }
 
+/// The run in the geometry of a voxel file that the values ask for.
+#[tactic(auto, unfolding(crate::specs::Words::voxels_of))]
+fn voxels_of<'a>(alloc: Global, matches: &ArgMatches<'a>) -> Result<Request<'a>, WordsEnd>
+    ensures { Gives request_view result (voxels_of (rows_in matches.now)) }
+{
+    let file = text_of(matches, "file")?;
+    let run = run_of(alloc, matches)?;
+    if file == run.out || !is_other(file, run.save) {
+        return Err(WordsEnd::Usage);
+    }
+    Ok(Request::Voxels(Voxels { file, run }))
+}
+
 /// The run that the words ask for.
 #[tactic(auto, unfolding(crate::specs::Words::run_asked))]
 fn read_run<'a>(alloc: Global, words: &'a [String]) -> Result<Request<'a>, WordsEnd>
@@ -90,7 +103,7 @@ fn read_run<'a>(alloc: Global, words: &'a [String]) -> Result<Request<'a>, Words
 {
     let command = run_command(alloc)?;
     let matches = taken(command, words)?;
-    run_of(alloc, &matches)
+    Ok(Request::Run(run_of(alloc, &matches)?))
 }
 
 /// The check that the words ask for.
@@ -113,6 +126,16 @@ fn read_demo<'a>(alloc: Global, words: &'a [String]) -> Result<Request<'a>, Word
     demo_of(alloc, &matches)
 }
 
+/// The run in the geometry of a voxel file that the words ask for.
+#[tactic(auto, unfolding(crate::specs::Words::voxels_asked))]
+fn read_voxels<'a>(alloc: Global, words: &'a [String]) -> Result<Request<'a>, WordsEnd>
+    ensures { Gives request_view result (voxels_asked (map string_bytes words.now)) }
+{
+    let command = voxels_command(alloc)?;
+    let matches = taken(command, words)?;
+    voxels_of(alloc, &matches)
+}
+
 /// What the words after the program's name ask for: the first one is the command. `Usage` is answered exactly where they
 /// ask for nothing that the program does.
 #[tactic(auto, unfolding(crate::specs::Words::request_of))]
@@ -128,6 +151,7 @@ pub fn request_of<'a>(alloc: Global, words: &'a [String]) -> Result<Request<'a>,
         "run" => read_run(alloc, words),
         "check" => read_check(alloc, words),
         "demo" => read_demo(alloc, words),
+        "voxels" => read_voxels(alloc, words),
         _ => Err(WordsEnd::Usage),
     }
 }

@@ -73,6 +73,15 @@ pub struct Demo<'a> {
     pub format: Format,
 }
 
+/// A run of a case in the geometry of a voxel file.
+#[derive(Debug, Drop)]
+pub struct Voxels<'a> {
+    /// The name of the voxel file.
+    pub file: &'a str,
+    /// The run. Sides, walls and first densities are not those of its case.
+    pub run: Run<'a>,
+}
+
 /// What the words ask for.
 #[derive(Debug, Drop)]
 pub enum Request<'a> {
@@ -82,4 +91,6 @@ pub enum Request<'a> {
     Check(Check<'a>),
     /// A run of a generated case.
     Demo(Demo<'a>),
+    /// A run of a case in the geometry of a voxel file.
+    Voxels(Voxels<'a>),
 }

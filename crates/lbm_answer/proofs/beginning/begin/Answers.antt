@@ -16,5 +16,5 @@ returns-in_ok-first_of-in-None-clause-begun g c =
         narrow = made.narrow;
         ahead = omega arith;
       },
-      λ files told. begun-first (job_view c.args.job.now) files case c.in_ok-first_of-in-None.field-0 (ap (option_map (λ name. name.now)) c.in-None.is) made.first,
+      λ files told. begun-first (job_view case c.args.job.now) files c.in_ok-first_of-in-None.field-0 (ap (option_map (λ name. name.now)) c.in-None.is) made.first,
     )

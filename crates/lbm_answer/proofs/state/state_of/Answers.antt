@@ -8,7 +8,7 @@ use Rattle.lbm_answer.proofs.state.state_of.Goals as goal
 
 pub overflow_mul-k-end : goal.overflow_mul-k-end
 overflow_mul-k-end g c =
-    let case = (g.P.Pattern.standing c.args.pattern.now).case in
+    let case = (g.P.Lattice.standing c.args.pattern.now).case in
     let count : c.cells-cells.result ≡ cells case.torus = c.cells-cells.ensures.count ∙ ap cells (c.space.ensures.value ∙ ap (λ w. w.torus) c.case.ensures.value) in
     let width : c.directions-q.result ≡ case.stencil.directions =
     c.directions-q.ensures ∙ ap (λ v. v.directions) (sym c.set.ensures.stencil ∙ ap (λ w. w.stencil) c.case-2.ensures.value) in
@@ -17,7 +17,7 @@ overflow_mul-k-end g c =
 
 pub loop-k-preserved : goal.loop-k-preserved
 loop-k-preserved g c =
-    let now = g.P.Pattern.standing c.args.pattern.now in
+    let now = g.P.Lattice.standing c.args.pattern.now in
     let k = c.loop-k.k in
     let state = c.case.ensures.sizes c.requires in
     let count : c.cells-cells.result ≡ cells now.case.torus = c.cells-cells.ensures.count ∙ ap cells (c.space.ensures.value ∙ ap (λ w. w.torus) c.case.ensures.value) in
@@ -34,7 +34,7 @@ loop-k-preserved g c =
 
 pub new-requires : goal.new-requires
 new-requires g c =
-    let now = g.P.Pattern.standing c.args.pattern.now in
+    let now = g.P.Lattice.standing c.args.pattern.now in
     let state = c.case.ensures.sizes c.requires in
     let count : c.cells-cells.result ≡ cells now.case.torus = c.cells-cells.ensures.count ∙ ap cells (c.space.ensures.value ∙ ap (λ w. w.torus) c.case.ensures.value) in
     let width : c.directions-q.result ≡ now.case.stencil.directions =

@@ -1,4 +1,4 @@
-use Rattle.std.proofs.Common.{◌≡◌, ◌<◌, ◌∙◌, ℕ, ℤ, pos, Bool, ap, subst, FitsSigned, w32}
+use Rattle.std.proofs.Common.{◌∙◌, pos, Bool, ap, subst, FitsSigned, w32}
 use Rattle.std.specs.Prelude.{if◌then◌else◌, ◌&&◌, not}
 use Rattle.std.proofs.lemmas.Bool.{lt-ltb}
 use Rattle.lbm_cell.specs.Moments.{in_limits}
@@ -13,7 +13,7 @@ collide_rows-requires-clause-fits g c = λ i j known below. subst (FitsSigned w3
 pub returns-clause-post : goal.returns-clause-post
 returns-clause-post g c i j known below =
     c.collide_rows.ensures.post i j known below
-    ∙ ap (λ (b : Bool). becomes g.V.VelocitySet.stencil c.args.r c.args.g (has c.args.fluid j) (has c.args.solid j) (λ k. if b then lane c.args.b.now.rows j k else pos 0) i) (lt-ltb j 8 below)
+    ∙ ap (λ (b : Bool). becomes g.V.VelocitySet.stencil c.args.rule.now.rates c.args.rule.now.force (has c.args.fluid j) (has c.args.solid j) (λ k. if b then lane c.args.b.now.rows j k else pos 0) i) (lt-ltb j 8 below)
 
 pub returns-clause-past : goal.returns-clause-past
 returns-clause-past g c i j above = c.collide_rows.ensures.kept i j above

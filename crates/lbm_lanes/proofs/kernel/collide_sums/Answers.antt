@@ -1,4 +1,4 @@
-use Rattle.std.proofs.Common.{◌≡◌, ◌<◌, ◌≤◌, ℕ, List, ℤ, true, sym, subst, ap, ◌∙◌, eqb}
+use Rattle.std.proofs.Common.{◌≡◌, ◌<◌, ℕ, List, true, sym, ap, ◌∙◌, eqb}
 use Rattle.std.specs.Prelude.{slice_index, not}
 use Rattle.lbm_cell.proofs.Sizes.{size_of_32}
 use Rattle.lbm_lanes.specs.Cells.{is_on, after, IsWithin}

@@ -1,4 +1,4 @@
-use Rattle.std.proofs.Common.{◌≡◌, ℕ}
+use Rattle.std.proofs.Common.{◌≡◌}
 use Rattle.std.specs.Prelude.{◌&&◌}
 use Rattle.lbm_lanes.specs.Lanes.{has, least_passing}
 use Rattle.lbm_lanes.proofs.kernel.least.Given as goal

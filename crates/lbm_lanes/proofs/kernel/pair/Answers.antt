@@ -1,9 +1,9 @@
-use Rattle.std.proofs.Common.{◌≡◌, ◌≢◌, ◌<◌, ◌≤◌, ◌+◌, ◌*◌, ℕ, ℤ, pos, unsigned_abs, sym, ap, subst, refl, ◌∙◌, arith, eqb}
+use Rattle.std.proofs.Common.{◌≡◌, ◌≢◌, ◌<◌, ◌≤◌, ◌+◌, ℕ, ℤ, unsigned_abs, sym, ap, subst, refl, ◌∙◌, arith, eqb}
 use Rattle.std.specs.Prelude.{not}
 use Rattle.lbm_lanes.specs.Progress.{IsProgress}
 use Rattle.lbm_space.specs.Stencil.{opposite}
 use Rattle.lbm_walk.specs.Turns.{turn, sum_before}
-use Rattle.lbm_walk.proofs.Turns.{turn_is, opposite_other, underway_both, underway_at, sum_pair, turn_moving, turn_opposite}
+use Rattle.lbm_walk.proofs.Turns.{turn_is, underway_both, underway_at, sum_pair, turn_moving, turn_opposite}
 use Rattle.lbm_lanes.specs.Cells.{after}
 use Rattle.lbm_lanes.specs.Lanes.{entry}
 use Rattle.lbm_lanes.proofs.Advancing.{progress_none, taken_is, small_sum, total_next, total_small}
@@ -70,6 +70,9 @@ settled_pair-requires-clause-prepared g c = c.requires.run.prepared
 
 pub settled_pair-requires-clause-divisor : goal.settled_pair-requires-clause-divisor
 settled_pair-requires-clause-divisor g c = c.requires.run.divisor
+
+pub settled_pair-requires-clause-ones : goal.settled_pair-requires-clause-ones
+settled_pair-requires-clause-ones g c = c.requires.run.ones
 
 pub settled_pair-requires-clause-ready : goal.settled_pair-requires-clause-ready
 settled_pair-requires-clause-ready g c l lane =

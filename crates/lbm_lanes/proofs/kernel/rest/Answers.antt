@@ -1,4 +1,4 @@
-use Rattle.std.proofs.Common.{◌≡◌, ◌<◌, ◌≤◌, ◌*◌, ℕ, ℤ, pos, ◌-ℤ◌, unsigned_abs, subst, ap, ◌∙◌, arith, eqb}
+use Rattle.std.proofs.Common.{◌≡◌, ◌<◌, ◌≤◌, ℕ, ℤ, ◌-ℤ◌, unsigned_abs, subst, ap, ◌∙◌, arith, eqb}
 use Rattle.lbm_lanes.specs.Progress.{IsProgress}
 use Rattle.std.specs.Prelude.{slice_index, nat_lt, not}
 use Rattle.std.proofs.lemmas.Int.{ints}

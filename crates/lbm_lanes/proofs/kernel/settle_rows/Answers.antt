@@ -1,4 +1,4 @@
-use Rattle.std.proofs.Common.{◌≡◌, ◌<◌, ◌≤◌, ◌+◌, ℕ, subst, sym, ◌∙◌, arith, eqb, replicate, pos}
+use Rattle.std.proofs.Common.{arith, eqb, replicate, pos}
 use Rattle.std.specs.Prelude.{not}
 use Rattle.lbm_lanes.specs.Cells.{after}
 use Rattle.lbm_lanes.proofs.Advancing.{progress_start}

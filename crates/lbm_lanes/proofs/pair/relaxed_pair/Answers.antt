@@ -1,32 +1,29 @@
-use Rattle.std.proofs.Common.{◌≡◌, ◌≤◌, ◌<◌, ◌+◌, ◌-◌, ℕ, ℤ, pos, ◌+ℤ◌, ◌-ℤ◌, arith}
+use Rattle.std.proofs.Common.{◌≡◌, ◌+◌, ◌-◌, ◌*◌, ◌∙◌, ℕ, ℤ, pos, ◌+ℤ◌, ap, subst, arith}
 use Rattle.std.specs.Prelude.{slice_index}
-use Rattle.std.proofs.lemmas.Int.{ints}
-use Rattle.lbm_lanes.proofs.pair.relaxed_pair.Goals.{After-changes}
+use Rattle.lbm_lanes.specs.Pairs.{IsLane}
+use Rattle.lbm_lanes.proofs.Equilibria.{one_lane, one_change}
 use Rattle.lbm_lanes.proofs.pair.relaxed_pair.Goals as goal
 
-small_ahead : (c : After-changes) (l : ℕ) → l < 8 → slice_index c.args.f l ≤ 1769472
-small_ahead c l known = let lane = (c.requires.lanes l known).2 in omega (arith, lane.ahead, lane.not_dense)
+-- a lane by the square of its momentum that its base gives
+own_lane : (w d n r own own' base raised f o : ℕ) → base + 3 * own' ≡ 11 * (r * r) → IsLane w d 1 1 1 n r own base raised f o → IsLane w d 1 1 1 n r own' base raised f o
+own_lane w d n r own own' base raised f o given is =
+    let same : own ≡ own' = omega (arith, is.base_is, given) in subst (λ (k : ℕ). IsLane w d 1 1 1 n r k base raised f o) same is
 
-small_behind : (c : After-changes) (l : ℕ) → l < 8 → slice_index c.args.o l ≤ 1769472
-small_behind c l known = let lane = (c.requires.lanes l known).2 in omega (arith, lane.behind, lane.not_dense)
+pub equilibria-requires-clause-lanes : goal.equilibria-requires-clause-lanes
+equilibria-requires-clause-lanes g c l known =
+    let lane = c.requires.lanes l known in let ones = c.requires.ones (c.is_at_once.ensures.one c.if-is_at_once.true) in
+    (lane.0, lane.1, slice_index c.args.f l, slice_index c.args.o l, one_lane c.args.pair.now.weight c.args.pair.now.denominator c.args.pair.now.p c.args.pair.now.m c.args.pair.now.q lane.0 (slice_index c.args.cells.now.rho l) lane.1 (slice_index c.args.cells.now.base l) (slice_index c.args.raised l) (slice_index c.args.f l) (slice_index c.args.o l) ones.0 ones.1 ones.2 lane.2)
 
-raised_sum : (f more s : ℕ) (z : ℤ) → s ≡ f + more → pos more -ℤ pos 8388608 ≡ z → pos s -ℤ pos 8388608 ≡ pos f +ℤ z
-raised_sum f more s z is change = omega (arith, ints, is, change)
+pub returns-then-is_at_once-clause-ahead : goal.returns-then-is_at_once-clause-ahead
+returns-then-is_at_once-clause-ahead g c l own known given =
+    let lane = c.requires.lanes l known in let ones = c.requires.ones (c.is_at_once.ensures.one c.if-is_at_once.true) in
+    let one = one_lane c.args.pair.now.weight c.args.pair.now.denominator c.args.pair.now.p c.args.pair.now.m c.args.pair.now.q lane.0 (slice_index c.args.cells.now.rho l) lane.1 (slice_index c.args.cells.now.base l) (slice_index c.args.raised l) (slice_index c.args.f l) (slice_index c.args.o l) ones.0 ones.1 ones.2 lane.2 in
+    c.equilibria.ensures.ahead l lane.0 own (slice_index c.args.f l) (slice_index c.args.o l) known (own_lane c.args.pair.now.weight c.args.pair.now.denominator lane.0 (slice_index c.args.cells.now.rho l) lane.1 own (slice_index c.args.cells.now.base l) (slice_index c.args.raised l) (slice_index c.args.f l) (slice_index c.args.o l) given one)
+    ∙ ap (λ (z : ℤ). pos (slice_index c.args.f l) +ℤ z) (one_change c.args.pair.now.weight c.args.pair.now.denominator c.args.pair.now.p c.args.pair.now.m c.args.pair.now.q (slice_index c.args.cells.now.rho l) own (slice_index c.args.raised l) (slice_index c.args.f l) (slice_index c.args.o l) ones.0 ones.1 ones.2)
 
-pub sum-ahead-requires : goal.sum-ahead-requires
-sum-ahead-requires c l known = omega (arith, small_ahead (goal.at.sum-ahead-requires c).After-changes l known, c.changes.ensures.ahead_size l known)
-
-pub sum-behind-requires : goal.sum-behind-requires
-sum-behind-requires c l known = omega (arith, small_behind (goal.at.sum-behind-requires c).After-changes l known, c.changes.ensures.behind_size l known)
-
-pub returns-clause-ahead_size : goal.returns-clause-ahead_size
-returns-clause-ahead_size c l known = omega (arith, small_ahead (goal.at.returns-clause-ahead_size c).After-changes l known, c.changes.ensures.ahead_size l known, c.sum-ahead.ensures l known)
-
-pub returns-clause-behind_size : goal.returns-clause-behind_size
-returns-clause-behind_size c l known = omega (arith, small_behind (goal.at.returns-clause-behind_size c).After-changes l known, c.changes.ensures.behind_size l known, c.sum-behind.ensures l known)
-
-pub returns-clause-ahead : goal.returns-clause-ahead
-returns-clause-ahead c l own known given = raised_sum (slice_index c.args.f l) (slice_index c.changes.result.0 l) (slice_index c.sum-ahead.result l) _ (c.sum-ahead.ensures l known) (c.changes.ensures.ahead l own known given)
-
-pub returns-clause-behind : goal.returns-clause-behind
-returns-clause-behind c l own known given = raised_sum (slice_index c.args.o l) (slice_index c.changes.result.1 l) (slice_index c.sum-behind.result l) _ (c.sum-behind.ensures l known) (c.changes.ensures.behind l own known given)
+pub returns-then-is_at_once-clause-behind : goal.returns-then-is_at_once-clause-behind
+returns-then-is_at_once-clause-behind g c l own known given =
+    let lane = c.requires.lanes l known in let ones = c.requires.ones (c.is_at_once.ensures.one c.if-is_at_once.true) in
+    let one = one_lane c.args.pair.now.weight c.args.pair.now.denominator c.args.pair.now.p c.args.pair.now.m c.args.pair.now.q lane.0 (slice_index c.args.cells.now.rho l) lane.1 (slice_index c.args.cells.now.base l) (slice_index c.args.raised l) (slice_index c.args.f l) (slice_index c.args.o l) ones.0 ones.1 ones.2 lane.2 in
+    c.equilibria.ensures.behind l lane.0 own (slice_index c.args.f l) (slice_index c.args.o l) known (own_lane c.args.pair.now.weight c.args.pair.now.denominator lane.0 (slice_index c.args.cells.now.rho l) lane.1 own (slice_index c.args.cells.now.base l) (slice_index c.args.raised l) (slice_index c.args.f l) (slice_index c.args.o l) given one)
+    ∙ ap (λ (z : ℤ). pos (slice_index c.args.o l) +ℤ z) (one_change c.args.pair.now.weight c.args.pair.now.denominator c.args.pair.now.p c.args.pair.now.m c.args.pair.now.q (slice_index c.args.cells.now.rho l) own (16777216 - slice_index c.args.raised l) (slice_index c.args.o l) (slice_index c.args.f l) ones.0 ones.1 ones.2)

@@ -1,6 +1,7 @@
-use Rattle.std.proofs.Common.{◌≡◌, ◌<◌, ◌-◌, ◌∙◌, List, ℕ, ℤ, pos, ◌+ℤ◌, ◌-ℤ◌, ◌≤ℤ◌, unsigned_abs, true, ap, sym, rules, FitsSigned, to_z, of_z, arith, eqb}
+use Rattle.std.proofs.Common.{◌≡◌, ◌-◌, ◌∙◌, ap, sym, rules, FitsSigned, to_z, of_z, arith, eqb}
 use Rattle.std.specs.Int.{w64}
 use Rattle.std.specs.Prelude.{not, slice_index}
+use Rattle.std.proofs.lemmas.Int.{ints}
 use Rattle.lbm_space.specs.Stencil.{velocity, opposite, moving_axes}
 use Rattle.lbm_cell.specs.Collision.{relaxation, push}
 use Rattle.lbm_cell.proofs.Sizes.{clean, size_at_most}
@@ -52,6 +53,10 @@ natural-behind-requires-clause-above g c l known =
 pub natural-behind-requires-clause-small : goal.natural-behind-requires-clause-small
 natural-behind-requires-clause-small g c l known =
     kept_small (is_on (not (eqb g.row.MIXED 0)) (slice_index c.args.fluid.now.flags.colliding l)) (entry c.args.o l) (entry c.kept-held_opposite.result l) _ (c.kept-held_opposite.ensures l known) (zero_lane l known) (c.requires.small_opposite l known)
+
+pub relaxed_pair-requires-clause-ones : goal.relaxed_pair-requires-clause-ones
+relaxed_pair-requires-clause-ones g c on =
+    let is = c.requires.ones on in let k = c.pair_of-pair.ensures in (omega (arith, ints, is.p_is, k.p), omega (arith, ints, is.m_is, k.m), omega (arith, ints, is.q_is, k.q))
 
 pub relaxed_pair-requires-clause-reciprocal : goal.relaxed_pair-requires-clause-reciprocal
 relaxed_pair-requires-clause-reciprocal g c l known = (c.requires.ready l known).1.sound.reciprocal_is

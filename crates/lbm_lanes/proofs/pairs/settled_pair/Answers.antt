@@ -1,9 +1,9 @@
 use Rattle.std.specs.Prelude.{not, slice_index, nat_lt}
 use Rattle.lbm_space.specs.Stencil.{opposite}
-use Rattle.std.proofs.Common.{ap, sym, ◌∙◌, eqb}
+use Rattle.std.proofs.Common.{ap, ◌∙◌, eqb}
 use Rattle.lbm_lanes.specs.Cells.{is_on}
 use Rattle.lbm_lanes.specs.Lanes.{entry}
-use Rattle.lbm_lanes.proofs.Collided.{settled_is, settled_small, small_fits}
+use Rattle.lbm_lanes.proofs.Collided.{settled_is, settled_small}
 use Rattle.lbm_cell.proofs.Limits.{opposite_moves}
 use Rattle.lbm_lanes.proofs.pairs.settled_pair.Goals as goal
 

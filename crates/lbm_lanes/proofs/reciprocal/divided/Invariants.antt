@@ -1,4 +1,4 @@
-use Rattle.std.proofs.Common.{◌≡◌, ◌<◌, ◌≤◌, ◌/◌, ℕ, slice_index, length}
+use Rattle.std.proofs.Common.{◌≡◌, ◌<◌, ◌/◌, ℕ, slice_index, length}
 use Rattle.lbm_lanes.proofs.reciprocal.divided.Given as goal
 
 abbrev pub invariant-loop-l : goal.invariant-loop-l

@@ -1,4 +1,4 @@
-use Rattle.std.proofs.Common.{◌≡◌, ◌<◌, ◌≤◌, ◌+◌, ◌*◌, ◌/◌, ◌∙◌, ℕ, ap, sym, arith}
+use Rattle.std.proofs.Common.{◌<◌, ◌≤◌, ◌*◌, ◌/◌, ◌∙◌, ℕ, ap, arith}
 use Rattle.std.specs.Prelude.{slice_index}
 use Rattle.lbm_lanes.proofs.Quotients.{product_below}
 use Rattle.lbm_lanes.proofs.reciprocal.reciprocals.Goals as goal

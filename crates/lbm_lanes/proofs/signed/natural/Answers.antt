@@ -1,4 +1,4 @@
-use Rattle.std.proofs.Common.{◌≡◌, arith, ◌∙◌, ◌<◌, ℕ, ℤ, pos, map, of_z, to_z, unsigned_abs, get_or, length, Fits, refl}
+use Rattle.std.proofs.Common.{◌≡◌, arith, ◌<◌, ℕ, pos, map, of_z, to_z, unsigned_abs, length, Fits, refl}
 use Rattle.std.specs.Int.{w64}
 use Rattle.std.proofs.lemmas.Int.{to_z_pos}
 use Rattle.std.proofs.lemmas.Simd.{Each1-from_get_or}

@@ -1,6 +1,5 @@
-use Rattle.std.proofs.Common.{◌≡◌, arith, ◌∙◌, ◌<◌, ℕ, ℤ, pos, map, of_z, to_z, replicate, refl, length, false, ap, get_or, List}
+use Rattle.std.proofs.Common.{◌≡◌, arith, ◌∙◌, ℕ, pos, map, of_z, to_z, replicate, refl, length, false, ap, get_or, List}
 use Rattle.std.specs.Int.{w64}
-use Rattle.std.specs.Prelude.{int_le, not, nat_lt}
 use Rattle.std.proofs.lemmas.Simd.{tops_compared, get_or-zip2, get_or-replicate}
 use Rattle.lbm_lanes.specs.Lanes.{entry}
 use Rattle.lbm_lanes.proofs.Wrapping.{lane_map, length_map, length_zip, bit_is, mask_fits, below_zero}

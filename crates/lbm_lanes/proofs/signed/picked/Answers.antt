@@ -1,6 +1,6 @@
-use Rattle.std.proofs.Common.{◌≡◌, arith, ◌∙◌, ◌<◌, ℕ, ℤ, pos, map, of_z, to_z, replicate, refl, length, ap, get_or, ltb, cond, List}
+use Rattle.std.proofs.Common.{◌≡◌, arith, ◌∙◌, ℕ, pos, map, of_z, to_z, replicate, refl, length, ap, get_or, ltb, cond, List}
 use Rattle.std.specs.Int.{w64}
-use Rattle.std.specs.Prelude.{slice_index, nat_lt}
+use Rattle.std.specs.Prelude.{slice_index}
 use Rattle.std.proofs.lemmas.Simd.{get_or-replicate}
 use Rattle.lbm_lanes.specs.Lanes.{entry}
 use Rattle.lbm_lanes.proofs.Operators.{lane_chosen, chosen_length}

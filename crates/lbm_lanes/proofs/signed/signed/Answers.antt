@@ -1,4 +1,4 @@
-use Rattle.std.proofs.Common.{◌≡◌, arith, ◌∙◌, ◌<◌, ℕ, ℤ, pos, map, of_z, to_z}
+use Rattle.std.proofs.Common.{arith, ℕ, pos, to_z}
 use Rattle.std.specs.Int.{w64}
 use Rattle.std.specs.Prelude.{slice_index}
 use Rattle.std.proofs.lemmas.Int.{to_z_pos}

@@ -1,4 +1,4 @@
-use Rattle.std.proofs.Common.{◌≡◌, arith, ◌∙◌, ap, ℤ, pos, subst, sym, of_z, to_z}
+use Rattle.std.proofs.Common.{arith, ◌∙◌, ap, ℤ, pos, subst, sym}
 use Rattle.std.specs.Int.{w64}
 use Rattle.std.specs.Prelude.{int_le, FitsSigned, bit_or}
 use Rattle.lbm_lanes.specs.Lanes.{entry}

@@ -1,20 +1,12 @@
-use Rattle.std.proofs.Common.{◌≡◌, ◌≢◌, ◌<◌, ◌≤◌, ◌^◌, ℤ, ◌+ℤ◌, false, length, unsigned_abs, FitsSigned, arith, rules, refl, sym, ◌∙◌, to_z, of_z, inl, inr, get_or-set_same, get_or-set_other, length-set}
-use Rattle.std.specs.Int.{w64}
-use Rattle.std.proofs.lemmas.Int.{ints}
+use Rattle.std.proofs.Common.{◌≡◌, ◌≢◌, ◌<◌, ◌≤◌, ◌^◌, false, length, unsigned_abs, arith, rules, refl, sym, ◌∙◌, inl, inr, get_or-set_same, get_or-set_other, length-set}
 use Rattle.std.proofs.lemmas.Bool.{cases_lt}
 use Rattle.lbm_space.specs.Stencil.{opposite}
 use Rattle.lbm_cell.specs.Moments.{populations}
 use Rattle.lbm_cell.specs.Collision.{reflection}
 use Rattle.lbm_model.specs.Case.{is_moving}
+use Rattle.lbm_model.proofs.Gains.{gain_fits, gain_is}
 use Rattle.lbm_model.proofs.SmallStates.{is_post-solid, is_post-resting}
 use Rattle.lbm_model.proofs.cell.reflected.Goals as goal
-
--- the sum of a population and a gain fits, and is what the machine gives
-sum_fits : (x z : ℤ) → unsigned_abs x ≤ 2 ^ 28 → unsigned_abs z < 2 ^ 15 → FitsSigned w64 (to_z w64 (of_z w64 x) +ℤ to_z w64 (of_z w64 z))
-sum_fits x z small_x small_z = omega (arith, ints)
-
-sum_is : (x z : ℤ) → unsigned_abs x ≤ 2 ^ 28 → unsigned_abs z < 2 ^ 15 → to_z w64 (of_z w64 (to_z w64 (of_z w64 x) +ℤ to_z w64 (of_z w64 z))) ≡ x +ℤ z
-sum_is x z small_x small_z = omega (arith, ints)
 
 pub returns-then-not-is_moving-clause-post : goal.returns-then-not-is_moving-clause-post
 returns-then-not-is_moving-clause-post g c =
@@ -35,7 +27,7 @@ overflow_add-sent g c =
     let f = populations c.args.f.now.f in
     let known : c.loop-i.i < v.directions = omega (arith, g.met.V.VelocitySet.constants.0) in
     let turned : populations c.loop-i.sent.f c.loop-i.i ≡ reflection v f c.loop-i.i = c.loop-i.invariant.left c.loop-i.i (omega arith) known in
-    sum_fits (populations c.loop-i.sent.f c.loop-i.i) c.gain.result (rw turned (c.requires.small (opposite v c.loop-i.i) (g.met.V.VelocitySet.laws.opposite_exists c.loop-i.i known))) c.gain.ensures.size
+    gain_fits (populations c.loop-i.sent.f c.loop-i.i) c.gain.result (rw turned (c.requires.small (opposite v c.loop-i.i) (g.met.V.VelocitySet.laws.opposite_exists c.loop-i.i known))) c.gain.ensures.size
 
 pub loop-i-preserved : goal.loop-i-preserved
 loop-i-preserved g c =
@@ -48,7 +40,7 @@ loop-i-preserved g c =
     let within : i < length c.loop-i.sent.f = omega (arith, invariant.kept) in
     let turned : populations c.loop-i.sent.f i ≡ reflection v f i = invariant.left i (omega arith) known in
     let small : unsigned_abs (populations c.loop-i.sent.f i) ≤ 2 ^ 28 = rw turned (c.requires.small (opposite v i) (g.met.V.VelocitySet.laws.opposite_exists i known)) in
-    let sum = sum_is (populations c.loop-i.sent.f i) c.gain.result small c.gain.ensures.size in
+    let sum = gain_is (populations c.loop-i.sent.f i) c.gain.result small c.gain.ensures.size in
     record {
       done = λ k below. elim (cases_lt k i) [
         | inl front ↦ (let ne : k ≢ i = omega arith in rw get_or-set_other (invariant.done k front))

@@ -2,8 +2,8 @@ use Rattle.std.proofs.Common.{◌≡◌, ℕ, ◌+◌, ◌-◌, ◌*◌, ◌<◌
 use Rattle.lbm_space.specs.Torus.{Torus}
 use Rattle.lbm_space.specs.Padded.{row_start}
 use Rattle.lbm_space.proofs.RowStarts.{row_start_rises}
-use Rattle.lbm_sweep.specs.Spans.{local}
-use Rattle.lbm_sweep.proofs.Places.{width, row_cells}
+use Rattle.lbm_walk.specs.Places.{local}
+use Rattle.lbm_walk.proofs.Places.{width, row_cells}
 use Rattle.lbm_swap.specs.Exchange.{IsExchangedIn}
 use Rattle.lbm_swap.proofs.Runs.{exchanged_run, exchanged_more, row_place, row_within}
 use Rattle.lbm_swap.proofs.exchange.exchange_row.Goals as goal

@@ -1,6 +1,6 @@
 use Rattle.std.proofs.Common.{◌≡◌, ℕ, ◌+◌, ◌*◌, length, refl, sym, ap, ◌∙◌, subst, arith}
 use Rattle.std.proofs.Math.Nat.{mul-le-mul_right}
-use Rattle.lbm_sweep.proofs.Places.{rows_cells}
+use Rattle.lbm_walk.proofs.Places.{rows_cells}
 use Rattle.lbm_swap.specs.Exchange.{IsReady, IsExchangedIn}
 use Rattle.lbm_swap.proofs.Runs.{exchanged_none, exchanged_more}
 use Rattle.lbm_swap.proofs.exchange.exchange_rows.Goals as goal

@@ -1,19 +1,20 @@
-use Rattle.std.proofs.Common.{◌+◌, refl, sym, subst, arith}
-use Rattle.lbm_sweep.proofs.Copied.{same_count, same_margin}
-use Rattle.lbm_swap.proofs.Pads.{HasLoaded, load_more, load_passed}
+use Rattle.std.proofs.Common.{◌+◌, sym, subst, arith}
+use Rattle.lbm_space.specs.Torus.{padded}
+use Rattle.lbm_swap.specs.Exchange.{loaded_place}
+use Rattle.lbm_swap.proofs.Pads.{HasLoaded, none_copied, next_known, base_known, load_more, load_passed}
 use Rattle.lbm_swap.proofs.padding.load_pads_ahead.Goals as goal
 use Rattle.lbm_swap.proofs.padding.load_pads_ahead.Goals.{then-is_lesser, else-is_lesser}
 
 pub load_pads-requires-clause-dir : goal.load_pads-requires-clause-dir
 load_pads-requires-clause-dir g c =
-    omega (arith, same_count c.args.region.now c.loop-dir.region c.loop-dir.invariant.same, c.requires.count, g.met.V.VelocitySet.constants.0)
+    next_known c.args.region.now c.loop-dir.region g.V.VelocitySet.stencil.directions c.loop-dir.dir c.loop-dir.invariant.same c.requires.count (omega (arith, g.met.V.VelocitySet.constants.0, c.loop-dir-test.true, c.Q-dir-end.ensures))
 
 pub load_pads-requires-clause-base : goal.load_pads-requires-clause-base
 load_pads-requires-clause-base g c =
-    omega (arith, same_margin c.args.region.now c.loop-dir.region c.loop-dir.invariant.same, c.requires.base)
+    base_known c.args.region.now c.loop-dir.region c.args.base c.loop-dir.invariant.same c.requires.base
 
 pub loop-dir-init : goal.loop-dir-init
-loop-dir-init g c = record { same = refl; copied = record { done = λ k x below known. absurd (omega arith); left = λ k p past known. refl } }
+loop-dir-init g c = none_copied c.args.base (padded c.args.region.now.space) (λ k p. p) (λ k p. loaded_place c.args.region.now.space g.V.VelocitySet.stencil k p) c.args.region.now
 
 pub loop-dir-preserved : goal.loop-dir-preserved
 loop-dir-preserved g c =

@@ -1,12 +1,20 @@
-use Rattle.std.proofs.Common.{◌+◌, ◌<◌, refl, sym, subst, arith}
-use Rattle.lbm_sweep.proofs.Copied.{same_space, same_count, same_margin}
-use Rattle.lbm_swap.proofs.Pads.{HasStored, store_more, store_passed}
+use Rattle.std.proofs.Common.{◌+◌, ◌<◌, sym, subst, arith}
+use Rattle.lbm_space.specs.Torus.{cells}
+use Rattle.lbm_arrays.specs.Pads.{stand}
+use Rattle.lbm_sweep.proofs.Copied.{same_space}
+use Rattle.lbm_swap.specs.Exchange.{met_place}
+use Rattle.lbm_swap.proofs.Pads.{HasStored, none_copied, next_known, base_known, store_more, store_passed}
 use Rattle.lbm_swap.proofs.padding.store_pads_ahead.Goals as goal
 use Rattle.lbm_swap.proofs.padding.store_pads_ahead.Goals.{then-is_lesser, else-is_lesser}
 
+pub loop-dir-init : goal.loop-dir-init
+loop-dir-init g c =
+    let t = c.args.region.now.space in let v = g.V.VelocitySet.stencil in
+    none_copied c.args.base (cells t) (λ k x. stand t (met_place t v k x)) (λ k x. met_place t v k x) c.args.region.now
+
 pub store_pads-requires-clause-dir : goal.store_pads-requires-clause-dir
 store_pads-requires-clause-dir g c =
-    omega (arith, same_count c.args.region.now c.loop-dir.region c.loop-dir.invariant.same, c.requires.count, g.met.V.VelocitySet.constants.0)
+    next_known c.args.region.now c.loop-dir.region g.V.VelocitySet.stencil.directions c.loop-dir.dir c.loop-dir.invariant.same c.requires.count (omega (arith, g.met.V.VelocitySet.constants.0, c.loop-dir-test.true, c.Q-dir-end.ensures))
 
 pub store_pads-requires-clause-dimension : goal.store_pads-requires-clause-dimension
 store_pads-requires-clause-dimension g c =
@@ -14,10 +22,7 @@ store_pads-requires-clause-dimension g c =
 
 pub store_pads-requires-clause-base : goal.store_pads-requires-clause-base
 store_pads-requires-clause-base g c =
-    omega (arith, same_margin c.args.region.now c.loop-dir.region c.loop-dir.invariant.same, c.requires.base)
-
-pub loop-dir-init : goal.loop-dir-init
-loop-dir-init g c = record { same = refl; copied = record { done = λ k x below known. absurd (omega arith); left = λ k p past known. refl } }
+    base_known c.args.region.now c.loop-dir.region c.args.base c.loop-dir.invariant.same c.requires.base
 
 pub loop-dir-preserved : goal.loop-dir-preserved
 loop-dir-preserved g c =

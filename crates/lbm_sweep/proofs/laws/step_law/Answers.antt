@@ -1,5 +1,5 @@
-use Rattle.lbm_sweep.proofs.Steps.{written_is_step}
+use Rattle.lbm_sweep.proofs.Steps.{swept_is_step}
 use Rattle.lbm_sweep.proofs.laws.step_law.Goals as goal
 
 pub returns : goal.returns
-returns c = record { step = written_is_step }
+returns c = record { step = swept_is_step }

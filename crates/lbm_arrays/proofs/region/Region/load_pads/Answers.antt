@@ -1,24 +1,29 @@
-use Rattle.std.proofs.Common.{◌≡◌, ℕ, ◌+◌, ◌*◌, ◌/◌, get_or, ap, subst, ◌∙◌, arith}
-use Rattle.lbm_space.specs.Torus.{IsSpace, padded}
-use Rattle.lbm_arrays.specs.Arrays.{Arrays}
-use Rattle.lbm_arrays.specs.Pads.{IsLoadedIn}
-use Rattle.lbm_arrays.proofs.Padding.{loaded_more, loaded_whole, padded_lines, same_again}
+use Rattle.std.proofs.Common.{◌≡◌, ℕ, ◌+◌, ◌-◌, ◌*◌, ◌≤◌, length, drop, sym, ap, subst, ◌∙◌, arith, rules}
+use borrow.Rule.Slice.PartMut.{put_mid}
+use Rattle.std.proofs.lemmas.List.{take_at}
+use Rattle.std.proofs.Math.Nat.{mul-le-mul_right}
+use Rattle.lbm_arrays.specs.Arrays.{Arrays, array_size}
+use Rattle.lbm_arrays.specs.Pads.{place_slot, IsLoaded}
+use Rattle.lbm_arrays.proofs.CopiedLines.{length-part, length-put_mid, loaded_whole}
 use Rattle.lbm_arrays.proofs.region.Region.load_pads.Goals as goal
-
-pub loop-line-preserved : goal.loop-line-preserved
-loop-line-preserved g c =
-    let r = c.args.self.now in let l = c.loop-line.self in let old = c.loop-line.invariant in
-    let space : c.self.inside.space ≡ r.space = ap (λ (a : Arrays). a.space) c.self.view_is in
-    record {
-      same = same_again r l c.load_line.new.self old.same c.load_line.ensures.same;
-      wide = old.wide;
-      loaded = loaded_more r l c.load_line.new.self c.args.dir c.args.base c.loop-line.line (get_or c.sides.result 0 0 + 2) (subst IsSpace space c.sides.ensures.valid) old.wide old.same old.loaded c.load_line.ensures.loaded;
-    }
 
 pub returns-clause-loaded : goal.returns-clause-loaded
 returns-clause-loaded g c =
-    let r = c.args.self.now in let l = c.loop-line.self in let old = c.loop-line.invariant in let w : ℕ = get_or c.sides.result 0 0 + 2 in
-    let space : c.self.inside.space ≡ r.space = ap (λ (a : Arrays). a.space) c.self.view_is in
-    let last : c.loop-line.line ≡ c.padded.result / w = omega (arith, c.loop-line.auto.line-end, c.loop-line-test.false) in
-    let end : c.loop-line.line * w ≡ padded r.space = ap (λ n. n * w) last ∙ ap (λ n. n / w * w) (c.padded.ensures.count ∙ ap padded space) ∙ padded_lines r.space w old.wide in
-    loaded_whole r.space (subst IsSpace space c.sides.ensures.valid) r.margin c.args.dir c.args.base r.slots l.slots (subst (λ (n : ℕ). IsLoadedIn r.space r.margin c.args.dir c.args.base 0 n r.slots l.slots) end old.loaded)
+    let r = c.self.inside in let view = c.self.view_is in let dir = c.args.dir in let base = c.args.base in
+    let count = c.padded-places.ensures.count in let region = c.self.invariant.0 in
+    let places : ℕ = c.padded-places.result in let a : ℕ = dir * (r.margin + places) + base in let n : ℕ = a + places - a in
+    let xs = c.deref_mut.result.now in let ys = c.load_places.new.places in
+    let all : n ≡ places = omega arith in
+    let size : r.margin + places ≡ array_size r.space r.margin = ap (λ m. r.margin + m) count in
+    let known = c.requires.dir in let some : r.count ≡ c.args.self.now.count = ap (λ (b : Arrays). b.count) view in
+    let up : (dir + 1) * array_size r.space r.margin ≤ r.count * array_size r.space r.margin = mul-le-mul_right (array_size r.space r.margin) (omega (arith, known, some)) in
+    let room = c.requires.base in let margin : r.margin ≡ c.args.self.now.margin = ap (λ (b : Arrays). b.margin) view in
+    let long : length xs ≡ r.count * array_size r.space r.margin = ap length c.deref_mut.ensures.value ∙ region.whole in
+    let here : a ≡ place_slot r.space r.margin dir base 0 = ap (λ m. dir * m + base) size ∙ omega arith in
+    let inside : a + n ≤ length xs = omega (arith, all, size, up, room, margin, long, here, count) in
+    let whole : length ys ≡ n = c.load_places.ensures.length ∙ length-part a n xs inside in
+    let made : IsLoaded r.space r.margin dir base xs (put_mid a n xs ys) = loaded_whole a n xs ys inside whole r.space region.space r.margin dir base here (all ∙ count) c.load_places.ensures.loaded in
+    let kept : length (put_mid a n xs ys) ≡ r.slots.len = length-put_mid a n xs ys inside whole ∙ search rules in
+    let new = sym (take_at (put_mid a n xs ys) (drop (length (put_mid a n xs ys)) r.slots.items) r.slots.len kept) in
+    let old : xs ≡ c.args.self.now.slots = c.deref_mut.ensures.value ∙ ap (λ (b : Arrays). b.slots) view in
+    subst (λ (A : Type 0). A) (λ i. IsLoaded (view i).space (view i).margin dir base (old i) (new i)) made

@@ -1,0 +1,9 @@
+use Rattle.std.proofs.Common.{◌≡◌, length}
+use Rattle.lbm_arrays.specs.Pads.{line_start, IsLoadedIn}
+use Rattle.lbm_arrays.proofs.pads.load_places.Given as goal
+
+abbrev pub invariant-loop-z : goal.invariant-loop-z
+invariant-loop-z l = record {
+  all : length l.places ≡ length l.initial.places;
+  loaded : IsLoadedIn l.space (line_start l.space 0 0) (line_start l.space 0 l.z) l.initial.places l.places;
+}

@@ -1,0 +1,3 @@
+mod FirstLanes
+mod Least
+mod Lanes

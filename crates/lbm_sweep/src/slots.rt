@@ -1,0 +1,23 @@
+//! The slots at which ranges begin.
+
+ghost use Rattle.std.specs.Prelude.{◌≡◌, ◌<◌, ◌≤◌, ℕ, length, slice_index};
+ghost use Rattle.lbm_sweep.specs.Held.{BeginAt};
+
+use lbm_arrays::Loan;
+
+/// For each direction of a set a slot.
+pub type Slots = [usize; 27];
+
+/// For each direction the slot at which the range of its array begins.
+pub fn first_slots(loan: &Loan<'_>, arrays: &[usize]) -> Slots
+    requires few { length arrays.now ≤ 27 }
+    requires known { (i : ℕ) → i < length arrays.now → slice_index arrays.now i < length loan.now.ranges }
+    requires count { length loan.now.ranges ≤ 27 }
+    ensures { BeginAt (length arrays.now) loan.now.place arrays.now result }
+{
+    let mut slots = [0; 27];
+    for i in 0..arrays.len() {
+        slots[i] = loan.first_slot(arrays[i] as u32);
+    }
+    slots
+}

@@ -1,6 +1,0 @@
-use Rattle.lbm_model.specs.Layout.{two_layout}
-use Rattle.lbm_sweep.proofs.Lattices.{IsStateOf-state_in}
-use Rattle.lbm_two.proofs.two.TwoPattern.case.Goals as goal
-
-pub returns-clause-sizes : goal.returns-clause-sizes
-returns-clause-sizes g c none = let l = c.args.self.now in IsStateOf-state_in l.case two_layout l.slots
