@@ -87,19 +87,18 @@ pub(crate) fn bounds<V: VelocitySet>(readings: &[Reading]) -> (u32, u32)
     (least, most)
 }
 
-/// Whether none of `n` places from `at` on is one of those from `least` up to, not including, `most`.
+/// Whether the `n` places from `at` on are eight, and none of them is one of those from `least` up to, not including, `most`.
+/// (So the kernel folds over a run that is known to be eight long.)
 #[inline(always)]
-pub(crate) fn is_outside(least: u32, most: u32, at: u32, n: u32) -> bool
+pub(crate) fn is_whole(least: u32, most: u32, at: u32, n: u32) -> bool
     requires { at + n < 2 ^ 32 }
     ensures { result ≡ true → IsOutside least most at n }
 {
-    at + n <= least || most <= at
+    n == 8 && (at + n <= least || most <= at)
 }
 
 /// What cells take from an array: those of the `n` places, 1 to 8, from `at` on. Its range begins at slot `slot` of the
-/// loan. The other lanes are 0. Few cells have to ask whether what they take is saved.
-#[inline(never)]
-#[cold]
+/// loan. The other lanes are 0.
 pub(crate) fn lanes_near<W: Way>(
     loan: &Loan<'_>,
     saved: &[i64],

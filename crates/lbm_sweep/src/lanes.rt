@@ -24,6 +24,18 @@ fn lanes_of(run: &[i64]) -> [i64; 8]
     if run.len() == 8 {
         return whole_run(run);
     }
+    short_run(run)
+}
+
+// The same where they are fewer than eight, as at the end of a row. It stands apart so that runs of eight fold into the
+// kernel.
+#[cold]
+#[inline(never)]
+fn short_run(run: &[i64]) -> [i64; 8]
+    requires { length run.now ≤ 8 }
+    ensures numbers { (j : ℕ) → j < length run.now → slice_index_or result j (pos 0) ≡ slice_index_or run.now j (pos 0) }
+    ensures past { (j : ℕ) → length run.now ≤ j → slice_index_or result j (pos 0) ≡ pos 0 }
+{
     let mut lanes = [0; 8];
     for (j, number) in run.iter().enumerate() {
         lanes[j] = *number;

@@ -1,5 +1,5 @@
 use Rattle.std.proofs.Common.{◌≡◌, ℕ, ◌<◌, ◌≤◌, length, pos, slice_index_or}
-use Rattle.lbm_sweep.proofs.lanes.lanes_of.Given as goal
+use Rattle.lbm_sweep.proofs.lanes.short_run.Given as goal
 
 abbrev pub invariant-loop-j : goal.invariant-loop-j
 invariant-loop-j l = record {
