@@ -2,7 +2,7 @@
 flow using the Navier-Stokes equations and a multigrid method", Journal of Computational Physics 48 (1982), 387-411, tables I and II:
 the velocity along the lid on the upright line through the middle, from the lid down, and the upward velocity on the level line
 through the middle, from right to left, for a lid that moves to the right. At Reynolds number 400 the value -0.23827 at 0.9063 is left
-out: it lies far off the curve through its neighbours.
+out: it lies far off the curve through its neighbours. The numbers have not been compared with the printed tables since they were typed.
 """
 
 HEIGHTS = [1, 0.9766, 0.9688, 0.9609, 0.9531, 0.8516, 0.7344, 0.6172, 0.5, 0.4531, 0.2813, 0.1719, 0.1016, 0.0703, 0.0625, 0.0547, 0]
