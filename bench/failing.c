@@ -1,6 +1,7 @@
 // Makes one call of a kind fail, in a program that this is loaded into (LD_PRELOAD): the FAIL_AT-th of those that FAIL_KIND
 // names, counted from 1. The kinds are `memory` (malloc, realloc), `open`, `read`, `write` and `seek`. Where FAIL_AT is 0,
-// none fails. At the end, the file that FAIL_COUNT names holds how many such calls there were.
+// none fails. At the end, the file that FAIL_COUNT names holds how many such calls there were, and for how many bytes those of
+// `memory` asked.
 #define _GNU_SOURCE
 #include <errno.h>
 #include <fcntl.h>
@@ -17,6 +18,7 @@ extern void *__libc_realloc(void *, size_t);
 static const char *kind;
 static long fail_at;
 static long seen;
+static long bytes_asked;
 
 __attribute__((constructor)) static void begin(void) {
     const char *at = getenv("FAIL_AT");
@@ -32,8 +34,13 @@ static int fails(const char *of, int error) {
     return 1;
 }
 
-void *malloc(size_t size) { return fails("memory", ENOMEM) ? NULL : __libc_malloc(size); }
-void *realloc(void *old, size_t size) { return fails("memory", ENOMEM) ? NULL : __libc_realloc(old, size); }
+static int lacks(size_t size) {
+    __atomic_add_fetch(&bytes_asked, size, __ATOMIC_SEQ_CST);
+    return fails("memory", ENOMEM);
+}
+
+void *malloc(size_t size) { return lacks(size) ? NULL : __libc_malloc(size); }
+void *realloc(void *old, size_t size) { return lacks(size) ? NULL : __libc_realloc(old, size); }
 
 int open(const char *name, int flags, ...) {
     va_list rest;
@@ -51,7 +58,7 @@ off_t lseek(int file, off_t at, int from) { return fails("seek", EIO) ? -1 : sys
 void _exit(int status) {
     const char *name = getenv("FAIL_COUNT");
     int file = name == NULL ? -1 : syscall(SYS_openat, AT_FDCWD, name, O_WRONLY | O_CREAT | O_TRUNC, 0644);
-    if (file >= 0) dprintf(file, "%ld\n", seen);
+    if (file >= 0) dprintf(file, "%ld %ld\n", seen, bytes_asked);
     syscall(SYS_exit_group, status);
     __builtin_unreachable();
 }

@@ -2,10 +2,11 @@
 """Tells what a run of lbm comes to: viscosity, velocities, Mach and Reynolds number, permeability, and how much rounding may weigh.
 It wants Python alone, 3.11 or later. docs/UNITS.md has the formulas, docs/ACCURACY.md what B means.
 
-    figures.py CASE FILE.vtk [--length CELLS] [--line x|y|z X Y [Z]]
+    figures.py CASE FILE.vtk [--voxels] [--length CELLS] [--line x|y|z X Y [Z]]
 
 --length gives the length of the Reynolds number. --line prints the velocity along a line of cells through the cell X Y Z, a cell
-a row: its place on the line, and the parts of its velocity, in cells a step. Solid cells are left out.
+a row: its place on the line, and the parts of its velocity, in cells a step. Solid cells are left out. --voxels is for a run over a voxel
+file: its map is not that of CASE.
 """
 import argparse
 import math
@@ -25,9 +26,9 @@ def told(vector):
     return " ".join(f"{part:.6g}" if abs(part) > 1e-12 else "0" for part in vector)
 
 
-def tell_line(case, speeds, fields, axis, through):
+def tell_line(speeds, fields, axis, through):
     place = through + [0] * (3 - len(through))
-    for k in range(case.sides["xyz".index(axis)]):
+    for k in range(fields.sides["xyz".index(axis)]):
         place["xyz".index(axis)] = k
         velocity = speeds[fields.cell(*place)]
         if velocity is not None:
@@ -65,15 +66,18 @@ def main():
     reader = argparse.ArgumentParser(description=__doc__, formatter_class=argparse.RawDescriptionHelpFormatter)
     reader.add_argument("case")
     reader.add_argument("file")
+    reader.add_argument("--voxels", action="store_true")
     reader.add_argument("--length", type=float)
     reader.add_argument("--line", nargs="+", metavar="AXIS PLACE")
     words = reader.parse_args()
     case, fields = flow.Case.read(words.case), flow.Fields(words.file)
-    speeds = flow.velocities(case, fields)
+    if words.voxels:
+        case.wall = [0, 0, 0]  # no cell moves
+    speeds = flow.velocities(case, fields, words.voxels)
     if words.line is None:
         tell(case, speeds, fields, words.length)
     elif words.line[0] in ("x", "y", "z") and len(words.line) in (3, 4):
-        tell_line(case, speeds, fields, words.line[0], [int(word) for word in words.line[1:]])
+        tell_line(speeds, fields, words.line[0], [int(word) for word in words.line[1:]])
     else:
         reader.error("--line wants an axis and the place of a cell")
 

@@ -125,10 +125,10 @@ class Fields:
         return x + self.sides[0] * (y + self.sides[1] * z)
 
 
-def velocities(case, fields):
-    """The velocity of each cell in order, and None where it is solid."""
-    if case.sides != fields.sides:
-        sys.exit(f"the case has the sides {case.sides}, and the file of the run {fields.sides}")
+def velocities(case, fields, voxels=False):
+    """The velocity of each cell in order, and None where it is solid. Of a run over a voxel file the case has another map."""
+    if case.sides != fields.sides and not voxels:
+        sys.exit(f"the case has the sides {case.sides}, and the file of the run {fields.sides}; --voxels is for runs over a voxel file")
     return [None if rho == 0 else case.velocity(rho, j) for rho, j in zip(fields.density, fields.momentum)]
 
 

@@ -1,11 +1,11 @@
 #!/usr/bin/env python3
 """Paints a run of lbm as a PNG picture: by default the speed of each cell. It wants Python alone, 3.11 or later.
 
-    picture.py CASE FILE.vtk FILE.png [--of speed|x|y|z|density] [--layer Z] [--width PIXELS]
+    picture.py CASE FILE.vtk FILE.png [--voxels] [--of speed|x|y|z|density] [--layer Z] [--width PIXELS]
 
 The first row of the map is at the top, so the picture lies as the case file is written; solid cells are grey. Of a box in space one
 layer is painted, by default the middle one. Velocities have half of the force's share added, and are in cells a step. Below the
-picture stands the scale, with its least and its greatest value.
+picture stands the scale, with its least and its greatest value. --voxels is for a run over a voxel file, whose map is not that of CASE.
 """
 import argparse
 import struct
@@ -64,11 +64,11 @@ def write_number(rows, value, x, y, size, ends=False):
         left += 4 * size
 
 
-def values_of(case, fields, what):
+def values_of(case, fields, what, voxels):
     """What is painted of each cell: a number, or None where it is solid."""
     if what == "density":
         return [None if rho == 0 else rho / flow.UNIT for rho in fields.density]
-    speeds = flow.velocities(case, fields)
+    speeds = flow.velocities(case, fields, voxels)
     if what == "speed":
         return [None if v is None else sum(part * part for part in v) ** 0.5 for v in speeds]
     return [None if v is None else v["xyz".index(what)] for v in speeds]
@@ -111,6 +111,7 @@ def main():
     reader.add_argument("case")
     reader.add_argument("file")
     reader.add_argument("picture")
+    reader.add_argument("--voxels", action="store_true")
     reader.add_argument("--of", default="speed", choices=["speed", "x", "y", "z", "density"])
     reader.add_argument("--layer", type=int)
     reader.add_argument("--width", type=int, default=800)
@@ -118,7 +119,7 @@ def main():
     case, fields = flow.Case.read(words.case), flow.Fields(words.file)
     nx, ny, nz = fields.sides
     layer = nz // 2 if words.layer is None else words.layer
-    values = values_of(case, fields, words.of)[layer * nx * ny : (layer + 1) * nx * ny]
+    values = values_of(case, fields, words.of, words.voxels)[layer * nx * ny : (layer + 1) * nx * ny]
     low, high = scale_of(values, words.of)
     colours = SIGNED if words.of in "xyz" else SIZES
     write_png(words.picture, painted(values, (nx, ny), low, high, words.width), colours)

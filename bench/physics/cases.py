@@ -7,7 +7,7 @@ from pathlib import Path
 import numpy
 from twin import Twin, flow, velocity
 
-EXAMPLES = Path(flow.__file__).parent
+CASES = Path(__file__).resolve().parents[2] / "crates/lbm_table/data"
 
 
 def text(rows, rates, force=0, wall=0, set_name="D2Q9"):

@@ -3,7 +3,7 @@ import math
 
 import ghia
 import numpy
-from cases import EXAMPLES, Program, box, cavity, channel, cylinders, exact_moments, flow, plates, slit_time
+from cases import CASES, Program, box, cavity, channel, cylinders, exact_moments, flow, plates, slit_time
 from twin import Twin
 
 __all__ = ["TABLES", "Program"]
@@ -38,13 +38,13 @@ def walls_apart(rates):
 
 
 def examples_table(program):
-    """How many numbers of the files of examples/ differ between the program and the twin that rounds."""
+    """How many numbers of the case files differ between the program and the twin that rounds."""
     rows, steps = [], 1000
-    for path in sorted(EXAMPLES.glob("*.toml")):
+    for path in sorted(CASES.glob("*.toml")):
         case = flow.Case.read(path)
         ours, theirs = program.run(case, steps), exact_moments(case, steps)
         differ = sum(int((a != b).sum()) for a, b in zip(ours, theirs))
-        rows.append([f"examples/{path.name}", case.set, steps, 4 * len(case.cells), differ])
+        rows.append([path.name, case.set, steps, 4 * len(case.cells), differ])
     return markdown(["Case", "Set", "Steps", "Numbers", "that differ"], rows)
 
 
@@ -184,17 +184,17 @@ def permeability(case, u):
 def bodies_table(program):
     rows = []
     for name, steps in (("cylinder", 10000), ("step", 10000), ("grains", 4000)):
-        case = flow.Case.read(EXAMPLES / f"{name}.toml")
+        case = flow.Case.read(CASES / f"{name}.toml")
         ours, twins = program.velocity(case, steps), Twin(case).run(steps).velocity()
         worst = abs(ours - twins).max() / abs(twins).max()
-        rows.append([f"examples/{name}.toml", steps, f"{ours[0].mean():.6f}", f"{twins[0].mean():.6f}",
+        rows.append([f"{name}.toml", steps, f"{ours[0].mean():.6f}", f"{twins[0].mean():.6f}",
                      percent(ours[0].sum() / twins[0].sum() - 1, 3), f"{100 * worst:.3f} %"])
     return markdown(["Case", "Steps", "Mean velocity", "Without rounding", "Rounding", "Worst cell"], rows)
 
 
 def porous_table(program):
     rows, steps = [], 1000
-    example = flow.Case.read(EXAMPLES / "porous.toml")
+    example = flow.Case.read(CASES / "porous.toml")
     for rates, force in [(UNITY, g) for g in (1, 4, 16, 64)] + [(MAGIC, g) for g in (1, 4, 16, 64)] + [(MAGIC_THICK, g) for g in (1, 4, 16, 64)]:
         case = with_settings(example, force, rates)
         ours, twins = (permeability(case, u) for u in (program.velocity(case, steps), Twin(case).run(steps).velocity()))

@@ -2,6 +2,7 @@
 use Rattle.std.specs.Prelude.{◌≡◌, ◌⊎◌, ℕ, ◌≤◌, List, Option, Some, None, Ok, ℤ, pos, ◌+ℤ◌, ◌*ℤ◌}
 use Rattle.sha2.specs.Sha256.{sha256}
 use Rattle.lbm_store.specs.Outside.{Files, content}
+use Rattle.lbm_model.specs.Limits.{most_steps}
 use Rattle.lbm_model.specs.Case.{FlowCase, IsCase, all_gain}
 use Rattle.lbm_model.specs.State.{FlowState, mass}
 use Rattle.lbm_model.specs.Flow.{first, reached, run as flow_run}
@@ -21,7 +22,7 @@ pub record IsOnTheWay (job : Job) (bytes : List ℕ) : Type 0 where
 
 -- a run that goes on from such a checkpoint comes to what the whole run comes to
 abbrev pub ResumeLaw : Type 0
-ResumeLaw = (job : Job) (files : Files) (name : List ℕ) → IsCase job.case → job.steps ≤ 1000000 → IsOnTheWay job (content files name)
+ResumeLaw = (job : Job) (files : Files) (name : List ℕ) → IsCase job.case → job.steps ≤ most_steps → IsOnTheWay job (content files name)
     → job_outcome (record job { resume = Some name }) files ≡ job_outcome (record job { resume = None }) files
 
 -- a request for a run, or for one in the geometry of a voxel file, that goes on from this checkpoint or from none
@@ -43,7 +44,7 @@ whole_mass case steps = mass (first case) +ℤ (pos steps *ℤ all_gain case)
 
 -- that is the mass which a run reports that goes on from such a checkpoint and is finished
 abbrev pub ResumedMass : Type 0
-ResumedMass = (job : Job) (files : Files) (name : List ℕ) (left : Finished) → IsCase job.case → job.steps ≤ 1000000
+ResumedMass = (job : Job) (files : Files) (name : List ℕ) (left : Finished) → IsCase job.case → job.steps ≤ most_steps
     → IsOnTheWay job (content files name) → job_outcome (record job { resume = Some name }) files ≡ Ok left
     → mass_of left.report ≡ whole_mass job.case job.steps
 
@@ -56,6 +57,6 @@ RequestedMass = (request : Request) (files : Files) (name : List ℕ) (job : Job
 -- on: it comes to what the whole run comes to.
 abbrev pub SaveLaw : Type 0
 SaveLaw = (early late : Job) (files : Files) (name : List ℕ) (left : Finished)
-    → IsCase early.case → early.case ≡ late.case → early.bytes ≡ late.bytes → early.steps ≤ late.steps → late.steps ≤ 1000000
+    → IsCase early.case → early.case ≡ late.case → early.bytes ≡ late.bytes → early.steps ≤ late.steps → late.steps ≤ most_steps
     → job_outcome (record early { resume = None; save = Some name }) files ≡ Ok left
     → job_outcome (record late { resume = Some name }) (written left.files files) ≡ job_outcome (record late { resume = None }) files

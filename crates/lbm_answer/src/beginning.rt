@@ -1,6 +1,7 @@
 // Where a run begins.
 ghost use Rattle.std.specs.Prelude.{◌≡◌, ◌≤◌, ◌++◌, IfOk, Some};
 ghost use Rattle.sha2.specs.Sha256.{sha256};
+ghost use Rattle.lbm_model.specs.Limits.{most_steps};
 ghost use Rattle.lbm_model.specs.Flow.{first};
 ghost use Rattle.lbm_model.specs.Small.{IsNarrow};
 ghost use Rattle.lbm_answer.specs.Jobs.{Begins, job_bytes, job_view};
@@ -31,7 +32,7 @@ pub fn begin<T: Store>(
     job: &Job<'_, '_>,
     case: &Case,
 ) -> Result<Beginning, End>
-    requires few { job.now.steps ≤ 1000000 }
+    requires few { job.now.steps ≤ most_steps }
     ensures begun { Begins (job_view case.now job.now) (T.state store.old) (T.state store.new) result }
     ensures files { (T.state store.new).files ≡ (T.state store.old).files }
     ensures write_faults { (T.state store.new).write_faults ≡ (T.state store.old).write_faults }
@@ -61,7 +62,7 @@ fn resume<T: Store>(
     case: &Case,
     name: &str,
 ) -> Result<Beginning, End>
-    requires few { job.now.steps ≤ 1000000 }
+    requires few { job.now.steps ≤ most_steps }
     requires named { (job_view case.now job.now).resume ≡ Some name.now }
     ensures begun { Begins (job_view case.now job.now) (T.state store.old) (T.state store.new) result }
     ensures files { (T.state store.new).files ≡ (T.state store.old).files }

@@ -1,5 +1,6 @@
 // The sums that a report tells.
 ghost use Rattle.std.specs.Prelude.{◌≡◌, ◌≤◌, ◌∷◌, [], pos, ◌+ℤ◌, fold, length, All};
+ghost use Rattle.lbm_space.specs.Limits.{most_places};
 ghost use Rattle.lbm_model.specs.State.{mass};
 ghost use Rattle.lbm_answer.specs.Reports.{IsSmallMoment, moment_part, total};
 
@@ -26,7 +27,7 @@ fn sum_of(pops: &[i32]) -> i64
 
 /// The sums of the three parts of the momenta.
 pub(crate) fn total_momentum(moments: &[Moment]) -> [i64; 3]
-    requires few { length moments.now ≤ 4194304 }
+    requires few { length moments.now ≤ most_places }
     requires small { All IsSmallMoment moments.now }
     ensures { result ≡ total (λ m. m.jx) moments.now ∷ total (λ m. m.jy) moments.now ∷ total (λ m. m.jz) moments.now ∷ [] }
 {
@@ -38,7 +39,7 @@ pub(crate) fn total_momentum(moments: &[Moment]) -> [i64; 3]
 }
 
 fn total_part(moments: &[Moment], axis: usize) -> i64
-    requires few { length moments.now ≤ 4194304 }
+    requires few { length moments.now ≤ most_places }
     requires small { All IsSmallMoment moments.now }
     ensures { result ≡ total (λ m. moment_part m axis) moments.now }
 {

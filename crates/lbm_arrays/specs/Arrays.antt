@@ -1,5 +1,6 @@
 -- A region: arrays of one size, one behind the other. Each has a slot for every padded place of a space, and a margin.
 use Rattle.std.specs.Prelude.{◌≡◌, ℕ, ◌+◌, ◌*◌, ◌≤◌, List, ℤ, pos, length, slice_index_or}
+use Rattle.lbm_space.specs.Limits.{most_directions}
 use Rattle.lbm_space.specs.Torus.{Torus, IsSpace, padded}
 
 pub record Arrays : Type 0 where
@@ -24,6 +25,6 @@ held slots s = slice_index_or slots s (pos 0)
 pub record IsRegion (r : Arrays) : Type 0 where
   pub space : IsSpace r.space
   pub some : 1 ≤ r.count
-  pub few : r.count ≤ 27
+  pub few : r.count ≤ most_directions
   pub margin : r.margin ≤ padded r.space
   pub whole : length r.slots ≡ r.count * array_size r.space r.margin

@@ -3,8 +3,7 @@
 ghost use Rattle.std.specs.Prelude.{◌≡◌, ℕ, ℤ, List, Option};
 ghost use Rattle.lbm_arrays.specs.declared.either.Either.TheVariants.{First, Second};
 
-use crate::{Forks, Lending, Loan, Pass};
-use lbm_model::Case;
+use crate::{Forks, Inputs, Lending, Loan, Pass};
 use lbm_space::Cutting;
 use std::marker::PhantomData;
 
@@ -20,17 +19,10 @@ impl<P: Pass, Q: Pass> Pass for Either<P, Q> {
 
     ghost does = { λ w case read places piece rows old answer new. elim w [ First p ↦ P.does p case read places piece rows old answer new | Second q ↦ Q.does q case read places piece rows old answer new ] };
 
-    fn run(
-        &self,
-        case: &Case,
-        read: &[i64],
-        places: &[u32],
-        piece: u32,
-        loan: &mut Loan<'_>,
-    ) -> Option<u32> {
+    fn run(&self, inputs: &Inputs<'_>, piece: u32, loan: &mut Loan<'_>) -> Option<u32> {
         match self {
-            Either::First(pass) => pass.run(case, read, places, piece, loan),
-            Either::Second(pass) => pass.run(case, read, places, piece, loan),
+            Either::First(pass) => pass.run(inputs, piece, loan),
+            Either::Second(pass) => pass.run(inputs, piece, loan),
         }
     }
 }
@@ -49,23 +41,13 @@ impl<P: Pass, Q: Pass, C: Forks<Either<P, Q>>> Forks<P> for ForFirst<'_, C, Q> {
         &self,
         pass: P,
         gated: bool,
-        case: &Case,
-        read: &[i64],
-        places: &[u32],
+        inputs: &Inputs<'_>,
         slots: &mut [i64],
         lending: &Lending,
         cut: &Cutting,
     ) -> Option<u32> {
-        self.crew.fork(
-            Either::First(pass),
-            gated,
-            case,
-            read,
-            places,
-            slots,
-            lending,
-            cut,
-        )
+        let pass = Either::First(pass);
+        self.crew.fork(pass, gated, inputs, slots, lending, cut)
     }
 }
 
@@ -83,22 +65,12 @@ impl<P: Pass, Q: Pass, C: Forks<Either<P, Q>>> Forks<Q> for ForSecond<'_, C, P> 
         &self,
         pass: Q,
         gated: bool,
-        case: &Case,
-        read: &[i64],
-        places: &[u32],
+        inputs: &Inputs<'_>,
         slots: &mut [i64],
         lending: &Lending,
         cut: &Cutting,
     ) -> Option<u32> {
-        self.crew.fork(
-            Either::Second(pass),
-            gated,
-            case,
-            read,
-            places,
-            slots,
-            lending,
-            cut,
-        )
+        let pass = Either::Second(pass);
+        self.crew.fork(pass, gated, inputs, slots, lending, cut)
     }
 }

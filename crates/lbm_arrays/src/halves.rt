@@ -47,29 +47,42 @@ pub(crate) struct Plan {
     pub(crate) firsts: ArrayVec<usize, 27>,
 }
 
+// What is the same for all pieces: which ranges are lent, to the slabs of which cutting, the gate before each, and the work.
+#[derive(Drop)]
+struct Shared<'a, G, W> {
+    plan: &'a Plan,
+    cut: &'a Cutting,
+    gate: &'a G,
+    work: &'a W,
+}
+
+// The pieces from `from` up to, not including, `to`.
+#[derive(Clone, Copy)]
+struct Span {
+    from: u32,
+    to: u32,
+}
+
 // The work on one piece.
 fn one<W: PieceWork, G: Gate>(
-    plan: &Plan,
-    cut: &Cutting,
-    gate: &G,
-    work: &W,
+    shared: &Shared<'_, G, W>,
     piece: u32,
     patch: Patch<i64>,
 ) -> (Patch<i64>, Option<u32>)
-    requires fits { rows_of cut.now ≡ row_count plan.now.space }
-    requires asks { Asks (ready_in cut.now (W.ready work.now)) (does_in cut.now (W.does work.now)) plan.now.firsts.items (marks_of plan.now.space cut.now) piece (piece + 1) patch }
-    ensures { Gives (ready_in cut.now (W.ready work.now)) (does_in cut.now (W.does work.now)) plan.now.firsts.items (marks_of plan.now.space cut.now) piece (piece + 1) patch result.0 result.1 }
+    requires fits { rows_of shared.now.cut.now ≡ row_count shared.now.plan.now.space }
+    requires asks { Asks (ready_in shared.now.cut.now (W.ready shared.now.work.now)) (does_in shared.now.cut.now (W.does shared.now.work.now)) shared.now.plan.now.firsts.items (marks_of shared.now.plan.now.space shared.now.cut.now) piece (piece + 1) patch }
+    ensures { Gives (ready_in shared.now.cut.now (W.ready shared.now.work.now)) (does_in shared.now.cut.now (W.does shared.now.work.now)) shared.now.plan.now.firsts.items (marks_of shared.now.plan.now.space shared.now.cut.now) piece (piece + 1) patch result.0 result.1 }
 {
-    gate.enter(piece);
-    let rows = cut.slab(piece);
+    shared.gate.enter(piece);
+    let rows = shared.cut.slab(piece);
     let mut loan = Loan {
         patch,
-        firsts: plan.firsts.as_slice(),
-        lo: mark_of(&plan.space, rows.0),
-        hi: mark_of(&plan.space, rows.1),
+        firsts: shared.plan.firsts.as_slice(),
+        lo: mark_of(&shared.plan.space, rows.0),
+        hi: mark_of(&shared.plan.space, rows.1),
         rows,
     };
-    let answer = work.run(piece, &mut loan);
+    let answer = shared.work.run(piece, &mut loan);
     let Loan {
         patch,
         firsts: _,
@@ -102,25 +115,23 @@ fn split_off(
 #[cycle(halving)]
 fn by_halves<R: Threads + Sync, W: PieceWork, G: Gate>(
     rt: &R,
-    plan: &Plan,
-    cut: &Cutting,
-    gate: &G,
-    work: &W,
-    from: u32,
-    to: u32,
+    shared: &Shared<'_, G, W>,
+    span: Span,
     splits: u32,
     patch: Patch<i64>,
 ) -> (Patch<i64>, Option<u32>)
-    requires fits { rows_of cut.now ≡ row_count plan.now.space }
-    requires asks { Asks (ready_in cut.now (W.ready work.now)) (does_in cut.now (W.does work.now)) plan.now.firsts.items (marks_of plan.now.space cut.now) from to patch }
-    ensures { Gives (ready_in cut.now (W.ready work.now)) (does_in cut.now (W.does work.now)) plan.now.firsts.items (marks_of plan.now.space cut.now) from to patch result.0 result.1 }
+    requires fits { rows_of shared.now.cut.now ≡ row_count shared.now.plan.now.space }
+    requires asks { Asks (ready_in shared.now.cut.now (W.ready shared.now.work.now)) (does_in shared.now.cut.now (W.does shared.now.work.now)) shared.now.plan.now.firsts.items (marks_of shared.now.plan.now.space shared.now.cut.now) span.from span.to patch }
+    ensures { Gives (ready_in shared.now.cut.now (W.ready shared.now.work.now)) (does_in shared.now.cut.now (W.does shared.now.work.now)) shared.now.plan.now.firsts.items (marks_of shared.now.plan.now.space shared.now.cut.now) span.from span.to patch result.0 result.1 }
 {
+    let Span { from, to } = span;
     if to - from == 1 {
-        return one(plan, cut, gate, work, from, patch);
+        return one(shared, from, patch);
     }
     let mid = from + (to - from) / 2;
-    let (low, high) = split_off(plan, cut, from, mid, patch);
-    let ((low, a), (high, b)) = parts(rt, plan, cut, gate, work, from, mid, to, splits, low, high);
+    let (low, high) = split_off(shared.plan, shared.cut, from, mid, patch);
+    let (first, second) = (Span { from, to: mid }, Span { from: mid, to });
+    let ((low, a), (high, b)) = parts(rt, shared, first, second, splits, low, high);
     (low.merge(high), lesser_of(a, b))
 }
 
@@ -128,72 +139,75 @@ fn by_halves<R: Threads + Sync, W: PieceWork, G: Gate>(
 #[cycle(halving)]
 fn parts<R: Threads + Sync, W: PieceWork, G: Gate>(
     rt: &R,
-    plan: &Plan,
-    cut: &Cutting,
-    gate: &G,
-    work: &W,
-    from: u32,
-    mid: u32,
-    to: u32,
+    shared: &Shared<'_, G, W>,
+    first: Span,
+    second: Span,
     splits: u32,
     low: Patch<i64>,
     high: Patch<i64>,
 ) -> ((Patch<i64>, Option<u32>), (Patch<i64>, Option<u32>))
-    requires fits { rows_of cut.now ≡ row_count plan.now.space }
-    requires low { Asks (ready_in cut.now (W.ready work.now)) (does_in cut.now (W.does work.now)) plan.now.firsts.items (marks_of plan.now.space cut.now) from mid low }
-    requires high { Asks (ready_in cut.now (W.ready work.now)) (does_in cut.now (W.does work.now)) plan.now.firsts.items (marks_of plan.now.space cut.now) mid to high }
-    ensures low { Gives (ready_in cut.now (W.ready work.now)) (does_in cut.now (W.does work.now)) plan.now.firsts.items (marks_of plan.now.space cut.now) from mid low result.0.0 result.0.1 }
-    ensures high { Gives (ready_in cut.now (W.ready work.now)) (does_in cut.now (W.does work.now)) plan.now.firsts.items (marks_of plan.now.space cut.now) mid to high result.1.0 result.1.1 }
+    requires fits { rows_of shared.now.cut.now ≡ row_count shared.now.plan.now.space }
+    requires low { Asks (ready_in shared.now.cut.now (W.ready shared.now.work.now)) (does_in shared.now.cut.now (W.does shared.now.work.now)) shared.now.plan.now.firsts.items (marks_of shared.now.plan.now.space shared.now.cut.now) first.from first.to low }
+    requires high { Asks (ready_in shared.now.cut.now (W.ready shared.now.work.now)) (does_in shared.now.cut.now (W.does shared.now.work.now)) shared.now.plan.now.firsts.items (marks_of shared.now.plan.now.space shared.now.cut.now) second.from second.to high }
+    ensures low { Gives (ready_in shared.now.cut.now (W.ready shared.now.work.now)) (does_in shared.now.cut.now (W.does shared.now.work.now)) shared.now.plan.now.firsts.items (marks_of shared.now.plan.now.space shared.now.cut.now) first.from first.to low result.0.0 result.0.1 }
+    ensures high { Gives (ready_in shared.now.cut.now (W.ready shared.now.work.now)) (does_in shared.now.cut.now (W.does shared.now.work.now)) shared.now.plan.now.firsts.items (marks_of shared.now.plan.now.space shared.now.cut.now) second.from second.to high result.1.0 result.1.1 }
 {
     if splits == 0 {
-        let low = by_halves(rt, plan, cut, gate, work, from, mid, 0, low);
-        let high = by_halves(rt, plan, cut, gate, work, mid, to, 0, high);
+        let low = by_halves(rt, shared, first, 0, low);
+        let high = by_halves(rt, shared, second, 0, high);
         return (low, high);
     }
-    both(
-        rt,
-        plan,
-        cut,
-        gate,
-        work,
-        from,
-        mid,
-        to,
-        splits - 1,
-        low,
-        high,
-    )
+    both(rt, shared, first, second, splits - 1, low, high)
 }
 
 // The two halves beside each other: the first may have a thread of its own.
 #[cycle(halving)]
 fn both<R: Threads + Sync, W: PieceWork, G: Gate>(
     rt: &R,
-    plan: &Plan,
-    cut: &Cutting,
-    gate: &G,
-    work: &W,
-    from: u32,
-    mid: u32,
-    to: u32,
+    shared: &Shared<'_, G, W>,
+    first: Span,
+    second: Span,
     splits: u32,
     low: Patch<i64>,
     high: Patch<i64>,
 ) -> ((Patch<i64>, Option<u32>), (Patch<i64>, Option<u32>))
-    requires fits { rows_of cut.now ≡ row_count plan.now.space }
-    requires low { Asks (ready_in cut.now (W.ready work.now)) (does_in cut.now (W.does work.now)) plan.now.firsts.items (marks_of plan.now.space cut.now) from mid low }
-    requires high { Asks (ready_in cut.now (W.ready work.now)) (does_in cut.now (W.does work.now)) plan.now.firsts.items (marks_of plan.now.space cut.now) mid to high }
-    ensures low { Gives (ready_in cut.now (W.ready work.now)) (does_in cut.now (W.does work.now)) plan.now.firsts.items (marks_of plan.now.space cut.now) from mid low result.0.0 result.0.1 }
-    ensures high { Gives (ready_in cut.now (W.ready work.now)) (does_in cut.now (W.does work.now)) plan.now.firsts.items (marks_of plan.now.space cut.now) mid to high result.1.0 result.1.1 }
+    requires fits { rows_of shared.now.cut.now ≡ row_count shared.now.plan.now.space }
+    requires low { Asks (ready_in shared.now.cut.now (W.ready shared.now.work.now)) (does_in shared.now.cut.now (W.does shared.now.work.now)) shared.now.plan.now.firsts.items (marks_of shared.now.plan.now.space shared.now.cut.now) first.from first.to low }
+    requires high { Asks (ready_in shared.now.cut.now (W.ready shared.now.work.now)) (does_in shared.now.cut.now (W.does shared.now.work.now)) shared.now.plan.now.firsts.items (marks_of shared.now.plan.now.space shared.now.cut.now) second.from second.to high }
+    ensures low { Gives (ready_in shared.now.cut.now (W.ready shared.now.work.now)) (does_in shared.now.cut.now (W.does shared.now.work.now)) shared.now.plan.now.firsts.items (marks_of shared.now.plan.now.space shared.now.cut.now) first.from first.to low result.0.0 result.0.1 }
+    ensures high { Gives (ready_in shared.now.cut.now (W.ready shared.now.work.now)) (does_in shared.now.cut.now (W.does shared.now.work.now)) shared.now.plan.now.firsts.items (marks_of shared.now.plan.now.space shared.now.cut.now) second.from second.to high result.1.0 result.1.1 }
 {
+    // Of a closure that captures a struct of references nothing is known, so they are captured singly.
+    let Shared {
+        plan,
+        cut,
+        gate,
+        work,
+    } = *shared;
     let front = move || -> (Patch<i64>, Option<u32>)
-        requires { IsSync R.row × IsSync W.row × IsSync G.row × (rows_of cut.now ≡ row_count plan.now.space) × Asks (ready_in cut.now (W.ready work.now)) (does_in cut.now (W.does work.now)) plan.now.firsts.items (marks_of plan.now.space cut.now) from mid low }
-        ensures { Gives (ready_in cut.entry.now (W.ready work.entry.now)) (does_in cut.entry.now (W.does work.entry.now)) plan.entry.now.firsts.items (marks_of plan.entry.now.space cut.entry.now) from mid low result.0 result.1 }
-    { by_halves(rt, plan, cut, gate, work, from, mid, splits, low) };
+        requires { IsSync R.row × IsSync W.row × IsSync G.row × (rows_of cut.now ≡ row_count plan.now.space) × Asks (ready_in cut.now (W.ready work.now)) (does_in cut.now (W.does work.now)) plan.now.firsts.items (marks_of plan.now.space cut.now) first.from first.to low }
+        ensures { Gives (ready_in cut.entry.now (W.ready work.entry.now)) (does_in cut.entry.now (W.does work.entry.now)) plan.entry.now.firsts.items (marks_of plan.entry.now.space cut.entry.now) first.from first.to low result.0 result.1 }
+    {
+        let shared = Shared {
+            plan,
+            cut,
+            gate,
+            work,
+        };
+        by_halves(rt, &shared, first, splits, low)
+    };
     let back = move || -> (Patch<i64>, Option<u32>)
-        requires { IsSync R.row × IsSync W.row × IsSync G.row × (rows_of cut.now ≡ row_count plan.now.space) × Asks (ready_in cut.now (W.ready work.now)) (does_in cut.now (W.does work.now)) plan.now.firsts.items (marks_of plan.now.space cut.now) mid to high }
-        ensures { Gives (ready_in cut.entry.now (W.ready work.entry.now)) (does_in cut.entry.now (W.does work.entry.now)) plan.entry.now.firsts.items (marks_of plan.entry.now.space cut.entry.now) mid to high result.0 result.1 }
-    { by_halves(rt, plan, cut, gate, work, mid, to, splits, high) };
+        requires { IsSync R.row × IsSync W.row × IsSync G.row × (rows_of cut.now ≡ row_count plan.now.space) × Asks (ready_in cut.now (W.ready work.now)) (does_in cut.now (W.does work.now)) plan.now.firsts.items (marks_of plan.now.space cut.now) second.from second.to high }
+        ensures { Gives (ready_in cut.entry.now (W.ready work.entry.now)) (does_in cut.entry.now (W.does work.entry.now)) plan.entry.now.firsts.items (marks_of plan.entry.now.space cut.entry.now) second.from second.to high result.0 result.1 }
+    {
+        let shared = Shared {
+            plan,
+            cut,
+            gate,
+            work,
+        };
+        by_halves(rt, &shared, second, splits, high)
+    };
     join(rt, front, back)
 }
 
@@ -212,22 +226,23 @@ fn split_all(plan: &Plan, cut: &Cutting, patch: Patch<i64>) -> (Patch<i64>, Patc
 // The work on all pieces, where the patch has all places.
 fn in_whole<R: Threads + Sync, W: PieceWork, G: Gate>(
     rt: &R,
-    plan: &Plan,
-    cut: &Cutting,
-    gate: &G,
-    work: &W,
+    shared: &Shared<'_, G, W>,
     patch: Patch<i64>,
 ) -> (Patch<i64>, Option<u32>)
-    requires fits { rows_of cut.now ≡ row_count plan.now.space }
-    requires laid { IsLaid plan.now.firsts.items (marks_of plan.now.space cut.now) patch.len }
+    requires fits { rows_of shared.now.cut.now ≡ row_count shared.now.plan.now.space }
+    requires laid { IsLaid shared.now.plan.now.firsts.items (marks_of shared.now.plan.now.space shared.now.cut.now) patch.len }
     requires full { Filled patch.mine 0 patch.len }
-    requires ready { AllReady (ready_in cut.now (W.ready work.now)) (does_in cut.now (W.does work.now)) plan.now.firsts.items (marks_of plan.now.space cut.now) 0 (slabs_of cut.now) patch.items }
+    requires ready { AllReady (ready_in shared.now.cut.now (W.ready shared.now.work.now)) (does_in shared.now.cut.now (W.does shared.now.work.now)) shared.now.plan.now.firsts.items (marks_of shared.now.plan.now.space shared.now.cut.now) 0 (slabs_of shared.now.cut.now) patch.items }
     ensures full { IsRefilled patch result.0 }
-    ensures did { AllDone (ready_in cut.now (W.ready work.now)) (does_in cut.now (W.does work.now)) plan.now.firsts.items (marks_of plan.now.space cut.now) 0 (slabs_of cut.now) patch.items result.0.items result.1 }
-    ensures others { SameOthers plan.now.firsts.items 0 (mark plan.now.space (row_count plan.now.space)) patch.items result.0.items }
+    ensures did { AllDone (ready_in shared.now.cut.now (W.ready shared.now.work.now)) (does_in shared.now.cut.now (W.does shared.now.work.now)) shared.now.plan.now.firsts.items (marks_of shared.now.plan.now.space shared.now.cut.now) 0 (slabs_of shared.now.cut.now) patch.items result.0.items result.1 }
+    ensures others { SameOthers shared.now.plan.now.firsts.items 0 (mark shared.now.plan.now.space (row_count shared.now.plan.now.space)) patch.items result.0.items }
 {
-    let (lent, rest) = split_all(plan, cut, patch);
-    let (lent, answer) = by_halves(rt, plan, cut, gate, work, 0, cut.slabs(), SPLITS, lent);
+    let (lent, rest) = split_all(shared.plan, shared.cut, patch);
+    let all = Span {
+        from: 0,
+        to: shared.cut.slabs(),
+    };
+    let (lent, answer) = by_halves(rt, shared, all, SPLITS, lent);
     (lent.merge(rest), answer)
 }
 
@@ -250,6 +265,14 @@ pub(crate) fn fork_slice<R: Threads + Sync, W: PieceWork, G: Gate>(
         slots,
         |patch: Patch<i64>| -> (Patch<i64>, Option<u32>)
             requires { (rows_of cut.now ≡ row_count plan.now.space) × IsLaid plan.now.firsts.items (marks_of plan.now.space cut.now) patch.len × Filled patch.mine 0 patch.len × AllReady (ready_in cut.now (W.ready work.now)) (does_in cut.now (W.does work.now)) plan.now.firsts.items (marks_of plan.now.space cut.now) 0 (slabs_of cut.now) patch.items }
-        { in_whole(rt, plan, cut, gate, work, patch) },
+        {
+            let shared = Shared {
+                plan,
+                cut,
+                gate,
+                work,
+            };
+            in_whole(rt, &shared, patch)
+        },
     )
 }

@@ -16,7 +16,7 @@ mod slabs;
 mod steps;
 mod work;
 
-pub use crew::{Forks, Hands, Lending, Pass, Viewed, fork_by};
+pub use crew::{Forks, Hands, Inputs, Lending, Pass, Viewed, fork_by};
 pub use either::{Either, ForFirst, ForSecond};
 pub use loan::Loan;
 pub use region::Region;

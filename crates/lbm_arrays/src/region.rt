@@ -1,6 +1,7 @@
 //! One allocation of several arrays.
 
 ghost use Rattle.std.specs.Prelude.{◌≡◌, ℕ, ◌+◌, ◌*◌, ◌<◌, ◌≤◌, pos, replicate, slice_set, IfOk};
+ghost use Rattle.lbm_space.specs.Limits.{most_directions};
 ghost use Rattle.lbm_space.specs.Torus.{padded};
 
 use lbm_space::{Memory, Space};
@@ -37,7 +38,7 @@ impl<A: Allocator> Region<A> {
     /// the only refusal.
     pub fn new(heap: A, space: &Space, q: u32, margin: u32) -> Result<Region<A>, Memory>
         requires some { 1 ≤ q }
-        requires few { q ≤ 27 }
+        requires few { q ≤ most_directions }
         requires margin { margin ≤ padded space.now }
         ensures { IfOk result (λ r. r ≡ record { space = space.now; count = q; margin = margin; slots = replicate (q * array_size space.now margin) (pos 0) }) }
     {

@@ -1,10 +1,11 @@
 -- The case of a file, or its first refusal.
-use Rattle.std.specs.Prelude.{ℕ, ◌≢◌, ◌≤◌, List, map, nat_lt, if◌then◌else◌, unsigned_abs, Option, Some, None, Result, Ok, ok_or}
+use Rattle.std.specs.Prelude.{ℕ, ◌≢◌, ◌+◌, ◌*◌, ◌≤◌, List, map, nat_lt, if◌then◌else◌, unsigned_abs, Option, Some, None, Result, Ok, ok_or}
 use Rattle.std.specs.Str.{chars, is_utf8}
 use Rattle.toml.specs.Data.{Members}
 use Rattle.toml.specs.Parse.{parse_document}
 use Rattle.lbm_space.specs.Stencil.{part}
 use Rattle.lbm_space.specs.Torus.{Torus}
+use Rattle.lbm_cell.specs.Limits.{least_density, greatest_density}
 use Rattle.lbm_cell.specs.Collision.{rates}
 use Rattle.lbm_model.specs.Case.{FlowCase}
 use Rattle.lbm_model.specs.Sets.{stencil_of, case_of as flow_case}
@@ -12,6 +13,7 @@ use Rattle.lbm_model.specs.declared.sets.SetKind.{SetKind}
 use Rattle.lbm_case.specs.declared.fault.CaseFault.{CaseFault}
 use Rattle.lbm_case.specs.declared.fault.CaseFault.TheVariants.{NotToml, UnknownKey, MissingKey, BadNumber, BadSet, EmptyMap, Ragged, BadChar, TooLarge}
 use Rattle.lbm_model.specs.Refusals.{◌>>=◌, demand}
+use Rattle.lbm_case.specs.Limits.{greatest_digit}
 use Rattle.lbm_case.specs.Refusals.{refuse}
 use Rattle.lbm_case.specs.Settings.{Settings, unknown_key, missing_key, settings_of}
 use Rattle.lbm_case.specs.Numbers.{bad_number}
@@ -41,7 +43,7 @@ case_drawn set box s =
 
 -- what the first density of a cell is: 0 in a wall, and otherwise at most nine steps above the greatest plain one
 abbrev pub IsFirstDensity : ℕ → Type 0
-IsFirstDensity n = n ≢ 0 → (442368 ≤ n) × (n ≤ 3569472)
+IsFirstDensity n = n ≢ 0 → (least_density ≤ n) × (n ≤ greatest_density + 9 * greatest_digit)
 
 -- What the keys of a document say, or the first of four refusals, one a line: of the keys, and of the kinds and the ranges of
 -- their values.

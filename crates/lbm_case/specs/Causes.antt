@@ -6,7 +6,9 @@ use Rattle.std.specs.declared.cmp.Ordering.TheVariants.{Less}
 use Rattle.std.specs.Cmp.Lexicographic.{slice_cmp}
 use Rattle.toml.specs.Data.{Data, string, integer, array, Members}
 use Rattle.toml.specs.View.{items_of}
+use Rattle.lbm_space.specs.Limits.{greatest_side}
 use Rattle.lbm_space.specs.Torus.{IsSpace}
+use Rattle.lbm_cell.specs.Limits.{least_density, greatest_density, greatest_first_momentum, greatest_rate, greatest_force}
 use Rattle.lbm_model.specs.Sets.{stencil_of, name_of as set_name}
 use Rattle.lbm_model.specs.declared.sets.SetKind.{SetKind}
 use Rattle.lbm_model.specs.declared.sets.SetKind.TheVariants.{D2Q9}
@@ -14,6 +16,7 @@ use Rattle.lbm_case.specs.declared.key.Key.{Key}
 use Rattle.lbm_case.specs.declared.key.Key.TheVariants.{Set, Omega, Map, Layers, Density, Digit, Momentum, Force, OmegaMinus, Wall}
 use Rattle.lbm_case.specs.declared.fault.CaseFault.{CaseFault}
 use Rattle.lbm_case.specs.declared.fault.CaseFault.TheVariants.{NotToml, UnknownKey, MissingKey, WrongKind, BadNumber, BadSet, EmptyMap, Ragged, BadChar, TooLarge}
+use Rattle.lbm_case.specs.Limits.{greatest_digit}
 use Rattle.lbm_case.specs.Keys.{name_of}
 use Rattle.lbm_case.specs.Settings.{names_in, value_at}
 use Rattle.lbm_case.specs.Drawing.{hash, equals, dot, row, width, box_of}
@@ -78,9 +81,9 @@ IsBetween low high n = (low ≤ℤ n) × (n ≤ℤ high)
 abbrev pub IsIntegerBetween : ℤ → ℤ → Data → Type 0
 IsIntegerBetween low high value = (n : ℤ) → value ≡ integer n → IsBetween low high n
 
--- n / q is a rate: n is from 1 to 1024, and below twice q
+-- n / q is a rate: n is from 1 to the greatest, and below twice q
 abbrev pub IsRate : ℤ → ℤ → Type 0
-IsRate n q = IsBetween (pos 1) (pos 1024) n × (n <ℤ (pos 2 *ℤ q))
+IsRate n q = IsBetween (pos 1) (pos greatest_rate) n × (n <ℤ (pos 2 *ℤ q))
 
 -- three numbers of at most this size, of which the third is 0 in the plane
 abbrev pub IsVector : Members → ℕ → Data → Type 0
@@ -89,15 +92,15 @@ IsVector table size value = (x y z : ℤ) → value ≡ integers (x ∷ y ∷ z 
 
 abbrev pub IsInRange : Members → Key → Data → Type 0
 IsInRange table Set value = ⊤
-IsInRange table Omega value = (p q : ℤ) → value ≡ integers (p ∷ q ∷ []) → IsBetween (pos 1) (pos 1024) q × IsRate p q
+IsInRange table Omega value = (p q : ℤ) → value ≡ integers (p ∷ q ∷ []) → IsBetween (pos 1) (pos greatest_rate) q × IsRate p q
 IsInRange table Map value = ⊤
-IsInRange table Layers value = (n : ℤ) → value ≡ integer n → IsBetween (pos 1) (pos 4096) n × (NamesSet table D2Q9 → n ≡ pos 1)
-IsInRange table Density value = IsIntegerBetween (pos 442368) (pos 1769472) value
-IsInRange table Digit value = IsIntegerBetween (pos 0) (pos 200000) value
-IsInRange table Momentum value = IsVector table 884736 value
-IsInRange table Force value = IsVector table 1024 value
+IsInRange table Layers value = (n : ℤ) → value ≡ integer n → IsBetween (pos 1) (pos greatest_side) n × (NamesSet table D2Q9 → n ≡ pos 1)
+IsInRange table Density value = IsIntegerBetween (pos least_density) (pos greatest_density) value
+IsInRange table Digit value = IsIntegerBetween (pos 0) (pos greatest_digit) value
+IsInRange table Momentum value = IsVector table greatest_first_momentum value
+IsInRange table Force value = IsVector table greatest_force value
 IsInRange table OmegaMinus value = (m p q : ℤ) → value ≡ integer m → value_at Omega table ≡ Some (integers (p ∷ q ∷ [])) → IsRate m q
-IsInRange table Wall value = IsVector table 1024 value
+IsInRange table Wall value = IsVector table greatest_force value
 
 -- ---- the drawing
 

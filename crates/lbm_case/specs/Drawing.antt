@@ -2,6 +2,7 @@
 use Rattle.std.specs.Prelude.{ℕ, ◌+◌, ◌-◌, ◌*◌, ◌/◌, ◌%◌, List, [], length, filter, position, slice_index, slice_index_or, Bool, not, ◌&&◌, ◌||◌, ◌==◌, nat_le, if◌then◌else◌, Option, Some, None, option_map, option_and_then}
 use Rattle.std.specs.Option.{option_or}
 use Rattle.std.specs.List.{list_any, range_with_len, flat_map}
+use Rattle.lbm_space.specs.Limits.{greatest_side, most_places}
 use Rattle.lbm_space.specs.Torus.{Torus, torus, padded}
 
 -- the characters: walls at rest and in motion, and fluid
@@ -47,12 +48,12 @@ strange_place rows = option_and_then (λ r. option_map (λ x. (r, x)) (position 
 abbrev pub box_of : ℕ → ℕ → List (List ℕ) → Torus
 box_of dimension layers rows = torus dimension (width rows) (length rows / layers) layers
 
--- whether a box is allowed: each side is from 1 to 4096, a plane has one layer, and the padded box is not too large
+-- whether a box is allowed: each side is from 1 to the greatest, a plane has one layer, and the padded box is not too large
 abbrev pub is_side : ℕ → Bool
-is_side n = nat_le 1 n && nat_le n 4096
+is_side n = nat_le 1 n && nat_le n greatest_side
 
 abbrev pub is_space : Torus → Bool
-is_space t = is_side t.nx && is_side t.ny && is_side t.nz && (not (t.dimension == 2) || t.nz == 1) && nat_le (padded t) 4194304
+is_space t = is_side t.nx && is_side t.ny && is_side t.nz && (not (t.dimension == 2) || t.nz == 1) && nat_le (padded t) most_places
 
 -- the first density of the cell that a character stands for, which is 0 in a wall
 abbrev pub density_of : ℕ → ℕ → ℕ → ℕ

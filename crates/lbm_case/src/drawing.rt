@@ -3,7 +3,9 @@
 ghost use Rattle.std.specs.Prelude.{◌≡◌, ◌⊎◌, ◌<◌, ◌≤◌, List, ℕ, ℤ, pos, Some, None, All, IfOk, SomeIff, unsigned_abs};
 ghost use Rattle.lbm_space.specs.Stencil.{part};
 ghost use Rattle.lbm_space.specs.Torus.{IsSpace, torus};
+ghost use Rattle.lbm_cell.specs.Limits.{least_density, greatest_density, greatest_force};
 ghost use Rattle.lbm_cell.specs.Collision.{rates};
+ghost use Rattle.lbm_case.specs.Limits.{greatest_digit};
 ghost use Rattle.lbm_case.specs.Views.{settings_view};
 ghost use Rattle.lbm_case.specs.Numbers.{bad_number};
 ghost use Rattle.lbm_case.specs.Drawing.{ragged};
@@ -14,7 +16,7 @@ use crate::numbers::layers;
 use crate::rows::width;
 use crate::settings::Settings;
 use lbm_cell::{Force, Rates};
-use lbm_model::{Case, SetKind};
+use lbm_model::{Case, MovingWalls, SetKind};
 use lbm_space::Space;
 use std::alloc::{AllocError, Global};
 
@@ -50,7 +52,7 @@ fn rates_of(settings: &Settings) -> Rates
 
 /// The force, or the velocity of a wall, with these parts.
 fn force_of(parts: [i64; 3]) -> Force
-    requires { (a : ℕ) → unsigned_abs (part parts a) ≤ 1024 }
+    requires { (a : ℕ) → unsigned_abs (part parts a) ≤ greatest_force }
     ensures { result ≡ parts }
 {
     let [x, y, z] = parts;
@@ -61,8 +63,8 @@ fn force_of(parts: [i64; 3]) -> Force
 fn density_of(settings: &Settings) -> u32
     requires { bad_number (settings_view settings.now) ≡ None }
     ensures value { result ≡ unsigned_abs settings.now.density }
-    ensures least { 442368 ≤ result }
-    ensures greatest { result ≤ 1769472 }
+    ensures least { least_density ≤ result }
+    ensures greatest { result ≤ greatest_density }
 {
     settings.density as u32
 }
@@ -71,7 +73,7 @@ fn density_of(settings: &Settings) -> u32
 fn digit_of(settings: &Settings) -> u32
     requires { bad_number (settings_view settings.now) ≡ None }
     ensures value { result ≡ unsigned_abs settings.now.digit }
-    ensures greatest { result ≤ 200000 }
+    ensures greatest { result ≤ greatest_digit }
 {
     settings.digit as u32
 }
@@ -92,20 +94,13 @@ pub(crate) fn case_drawn(
 {
     let rates = rates_of(settings);
     let force = force_of(settings.force);
-    let wall = force_of(settings.wall);
+    let velocity = force_of(settings.wall);
     let density = density_of(settings);
     let digit = digit_of(settings);
     let count = space.cells() as usize;
     let densities = densities_of(alloc, count, density, digit, settings.rows)?;
-    let moving = moving_in(alloc, settings.rows)?;
-    Ok(Case::with_wall(
-        set,
-        space,
-        densities,
-        moving,
-        rates,
-        force,
-        settings.momentum,
-        wall,
-    ))
+    let cells = moving_in(alloc, settings.rows)?;
+    let walls = MovingWalls { cells, velocity };
+    let momentum = settings.momentum;
+    Ok(Case::with_wall(set, space, densities, rates, force, momentum, walls))
 }

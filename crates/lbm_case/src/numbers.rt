@@ -10,8 +10,12 @@ ghost use Rattle.lbm_case.specs.Numbers.{is_plane, is_between, is_rate, is_vecto
 use crate::fault::{CaseEnd, CaseFault};
 use crate::key::Key;
 use crate::settings::Settings;
-use lbm_cell::UNIT;
+use lbm_cell::{GREATEST_DENSITY, GREATEST_FORCE, GREATEST_RATE, LEAST_DENSITY, UNIT};
 use lbm_model::SetKind;
+use lbm_space::GREATEST_SIDE;
+
+/// The greatest density that each step of a digit adds.
+const GREATEST_DIGIT: i64 = 200_000;
 
 /// Whether the velocity set is one of the plane.
 fn is_plane(set: Option<SetKind>) -> bool
@@ -30,11 +34,11 @@ fn is_between(low: i64, high: i64, n: i64) -> bool
     low <= n && n <= high
 }
 
-/// Whether `n / q` is a rate: `n` is from 1 to 1024, and below twice `q`.
+/// Whether `n / q` is a rate: `n` is from 1 to the greatest, and below twice `q`.
 fn is_rate(n: i64, q: i64) -> bool
     ensures { result ≡ is_rate n q }
 {
-    is_between(1, 1024, n) && i128::from(n) < 2 * i128::from(q)
+    is_between(1, GREATEST_RATE, n) && i128::from(n) < 2 * i128::from(q)
 }
 
 /// Whether `n` is 0.
@@ -66,14 +70,17 @@ fn is_in_range(settings: &Settings, key: Key) -> bool
     let [p, q] = settings.rate;
     match key {
         Key::Set | Key::Map => true,
-        Key::Omega => is_between(1, 1024, q) && is_rate(p, q),
-        Key::Layers => is_between(1, if plane { 1 } else { 4096 }, settings.layers),
-        Key::Density => is_between(UNIT / 2, 2 * UNIT, settings.density),
-        Key::Digit => is_between(0, 200000, settings.digit),
+        Key::Omega => is_between(1, GREATEST_RATE, q) && is_rate(p, q),
+        Key::Layers => {
+            let most = if plane { 1 } else { i64::from(GREATEST_SIDE) };
+            is_between(1, most, settings.layers)
+        }
+        Key::Density => is_between(LEAST_DENSITY, GREATEST_DENSITY, settings.density),
+        Key::Digit => is_between(0, GREATEST_DIGIT, settings.digit),
         Key::Momentum => is_vector(plane, UNIT as u64, settings.momentum),
-        Key::Force => is_vector(plane, 1024, settings.force),
+        Key::Force => is_vector(plane, GREATEST_FORCE as u64, settings.force),
         Key::OmegaMinus => is_rate(settings.rate_minus, q),
-        Key::Wall => is_vector(plane, 1024, settings.wall),
+        Key::Wall => is_vector(plane, GREATEST_FORCE as u64, settings.wall),
     }
 }
 

@@ -2,6 +2,7 @@ use Rattle.std.specs.Prelude.{ℕ, ◌==◌, List, ℤ, pos, ◌+ℤ◌, ◌-ℤ
 use Rattle.std.specs.Int.{int_div_euclid}
 use Rattle.lbm_space.specs.Sum.{sum_from_one}
 use Rattle.lbm_space.specs.Stencil.{Stencil, part, dot, velocity, weight, opposite}
+use Rattle.lbm_cell.specs.Limits.{greatest_rate, greatest_force}
 use Rattle.lbm_cell.specs.Moments.{density, momentum}
 
 -- two relaxation times: the even part of a pair of opposite directions relaxes by p / q, and the odd part by m / q
@@ -15,9 +16,9 @@ pub record IsRates (r : RelaxationRates) : Type 0 where
   pub p_above : pos 0 <ℤ r.p
   pub m_above : pos 0 <ℤ r.m
   pub q_above : pos 0 <ℤ r.q
-  pub p_at_most : r.p ≤ℤ pos 1024
-  pub m_at_most : r.m ≤ℤ pos 1024
-  pub q_at_most : r.q ≤ℤ pos 1024
+  pub p_at_most : r.p ≤ℤ pos greatest_rate
+  pub m_at_most : r.m ≤ℤ pos greatest_rate
+  pub q_at_most : r.q ≤ℤ pos greatest_rate
   pub p_stable : r.p <ℤ (pos 2 *ℤ r.q)
   pub m_stable : r.m <ℤ (pos 2 *ℤ r.q)
 
@@ -27,9 +28,9 @@ rates p m q = record { p = p; m = m; q = q }
 -- the forces, and the velocities of a wall, that are allowed
 pub record IsForce (u : List ℤ) : Type 0 where
   pub three_parts : length u ≡ 3
-  pub x_small : unsigned_abs (part u 0) ≤ 1024
-  pub y_small : unsigned_abs (part u 1) ≤ 1024
-  pub z_small : unsigned_abs (part u 2) ≤ 1024
+  pub x_small : unsigned_abs (part u 0) ≤ greatest_force
+  pub y_small : unsigned_abs (part u 1) ≤ greatest_force
+  pub z_small : unsigned_abs (part u 2) ≤ greatest_force
 
 -- a / b for b above 0, rounded toward minus infinity
 abbrev pub floor_div : ℤ → ℤ → ℤ

@@ -1,24 +1,27 @@
 //! The collision of a fluid cell.
 
 ghost use Rattle.std.specs.Prelude.{◌≡◌, ◌<◌, ◌≤◌, ◌^◌, ◌*◌, ℕ, ℤ, pos, ◌+ℤ◌, ◌-ℤ◌, ◌*ℤ◌, ◌≤ℤ◌, unsigned_abs, IsTrue};
+ghost use Rattle.lbm_space.specs.Limits.{greatest_denominator};
+ghost use Rattle.lbm_cell.specs.Limits.{greatest_density, greatest_population};
 ghost use Rattle.lbm_cell.specs.Moments.{populations, density, momentum, in_limits};
 ghost use Rattle.lbm_cell.specs.Collision.{IsRates, IsForce, departure, relaxation, push, collision, floor_div};
 
 use crate::arithmetic::{difference, dot, product, quotient, sum};
+use crate::constants::MAX_Q;
 use crate::equilibrium::equilibrium_numerator;
 use crate::force::Force;
 use crate::moments::moment;
-use crate::populations::{MAX_Q, Pops};
+use crate::populations::Pops;
 use crate::rates::Rates;
 use lbm_space::VelocitySet;
 
 // weight numerator - 2 scale population
 #[inline]
 fn below_equilibrium(weight: i64, numerator: i64, scale: i64, population: i64) -> i64
-    requires weight_small { unsigned_abs weight ≤ 216 }
+    requires weight_small { unsigned_abs weight ≤ greatest_denominator }
     requires numerator_small { unsigned_abs numerator < 2 ^ 53 }
     requires scale_small { unsigned_abs scale ≤ 382205952 }
-    requires population_small { unsigned_abs population ≤ 1769472 }
+    requires population_small { unsigned_abs population ≤ greatest_density }
     ensures { result ≡ weight *ℤ numerator -ℤ pos 2 *ℤ (scale *ℤ population) }
 {
     difference(
@@ -115,7 +118,7 @@ pub fn collide<V: VelocitySet>(f: &Pops, r: Rates, g: Force) -> Pops
     ensures post { (i : ℕ) → i < V.stencil.directions → populations result.f i ≡ collision V.stencil r g (populations f.now.f) i }
     ensures zeros { (i : ℕ) → V.stencil.directions ≤ i → populations result.f i ≡ pos 0 }
     ensures density { density V.stencil (populations result.f) ≡ density V.stencil (populations f.now.f) }
-    ensures small { (i : ℕ) → unsigned_abs (populations result.f i) < 2 ^ 28 }
+    ensures small { (i : ℕ) → unsigned_abs (populations result.f i) < greatest_population }
 {
     let m = moment::<V>(f);
     let scale = product(V::DEN, m.rho);

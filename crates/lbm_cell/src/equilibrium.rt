@@ -2,6 +2,7 @@
 
 ghost use Rattle.std.specs.Prelude.{◌≡◌, ◌<◌, ◌≤◌, ◌^◌, ℕ, ℤ, pos, ◌+ℤ◌, ◌-ℤ◌, ◌*ℤ◌, ◌≤ℤ◌, unsigned_abs};
 ghost use Rattle.lbm_space.specs.Stencil.{part};
+ghost use Rattle.lbm_cell.specs.Limits.{least_density, greatest_first_density, greatest_first_momentum, greatest_population};
 ghost use Rattle.lbm_cell.specs.Moments.{populations, density};
 ghost use Rattle.lbm_cell.specs.Collision.{equilibrium_numerator, equilibrium, first_population};
 
@@ -29,8 +30,8 @@ fn combined(square: i64, cross: i64, turn: i64, own: i64) -> i64
 // The equilibrium of velocity `c` at density `rho` and momentum `j`, but for its weight and denominator.
 #[inline]
 pub(crate) fn equilibrium_numerator(rho: i64, j: &[i64; 3], c: &[i64; 3]) -> i64
-    requires density { unsigned_abs rho ≤ 4194304 }
-    requires momentum { (a : ℕ) → a < 3 → unsigned_abs (part j.now a) ≤ 4194304 }
+    requires density { unsigned_abs rho ≤ greatest_first_density }
+    requires momentum { (a : ℕ) → a < 3 → unsigned_abs (part j.now a) ≤ greatest_first_density }
     requires velocity { (a : ℕ) → a < 3 → unsigned_abs (part c.now a) ≤ 1 }
     ensures value { result ≡ equilibrium_numerator rho j.now c.now }
     ensures size { unsigned_abs result < 2 ^ 53 }
@@ -43,8 +44,8 @@ pub(crate) fn equilibrium_numerator(rho: i64, j: &[i64; 3], c: &[i64; 3]) -> i64
 // The equilibrium of direction `i`, rounded down.
 #[inline]
 fn equilibrium<V: VelocitySet>(rho: i64, j: &[i64; 3], divisor: i64, i: usize) -> i64
-    requires density { unsigned_abs rho ≤ 4194304 }
-    requires momentum { (a : ℕ) → a < 3 → unsigned_abs (part j.now a) ≤ 4194304 }
+    requires density { unsigned_abs rho ≤ greatest_first_density }
+    requires momentum { (a : ℕ) → a < 3 → unsigned_abs (part j.now a) ≤ greatest_first_density }
     requires divisor { divisor ≡ pos 2 *ℤ (V.stencil.denominator *ℤ rho) }
     requires divides { pos 1 ≤ℤ divisor }
     requires known { i < V.stencil.directions }
@@ -58,13 +59,13 @@ fn equilibrium<V: VelocitySet>(rho: i64, j: &[i64; 3], divisor: i64, i: usize) -
 /// (Krüger et al., the chapter on the method), each rounded down, and at rest what is left of the density.
 pub fn first_pops<V: VelocitySet>(rho: i64, j: [i64; 3]) -> Pops
     requires density_above { pos 1 ≤ℤ rho }
-    requires density_at_most { rho ≤ℤ pos 4194304 }
-    requires momentum { (a : ℕ) → a < 3 → unsigned_abs (part j a) ≤ 884736 }
+    requires density_at_most { rho ≤ℤ pos greatest_first_density }
+    requires momentum { (a : ℕ) → a < 3 → unsigned_abs (part j a) ≤ greatest_first_momentum }
     requires flat { (a : ℕ) → a < 3 → V.stencil.dimension ≤ a → part j a ≡ pos 0 }
     ensures first { (i : ℕ) → i < V.stencil.directions → populations result.f i ≡ first_population V.stencil rho j i }
     ensures zeros { (i : ℕ) → V.stencil.directions ≤ i → populations result.f i ≡ pos 0 }
     ensures density { density V.stencil (populations result.f) ≡ rho }
-    ensures small { pos 442368 ≤ℤ rho → (i : ℕ) → unsigned_abs (populations result.f i) < 2 ^ 28 }
+    ensures small { pos least_density ≤ℤ rho → (i : ℕ) → unsigned_abs (populations result.f i) < greatest_population }
 {
     let divisor = product(2, product(V::DEN, rho));
     let mut moving = Pops::zero();

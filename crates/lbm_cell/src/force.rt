@@ -3,6 +3,7 @@
 ghost use Rattle.std.specs.Prelude.{◌≡◌, List, [], ◌∷◌, ℤ, SomeIff};
 ghost use Rattle.lbm_cell.specs.Collision.{IsForce};
 
+use crate::constants::GREATEST_FORCE;
 use std::marker::Model;
 
 /// A force, or the velocity of a wall, by its three parts.
@@ -26,7 +27,7 @@ impl Force {
     pub fn new(gx: i64, gy: i64, gz: i64) -> Option<Force>
         ensures { let u = gx ∷ gy ∷ gz ∷ [] in SomeIff result (IsForce u) u }
     {
-        let range = -1024..=1024;
+        let range = -GREATEST_FORCE..=GREATEST_FORCE;
         if range.contains(&gx) && range.contains(&gy) && range.contains(&gz) {
             Some(Force {
                 parts: [gx, gy, gz],

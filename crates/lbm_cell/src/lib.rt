@@ -6,6 +6,7 @@
 
 mod arithmetic;
 pub mod collision;
+pub mod constants;
 pub mod equilibrium;
 pub mod force;
 pub mod moments;
@@ -14,9 +15,13 @@ pub mod rates;
 pub mod reflection;
 
 pub use collision::collide;
+pub use constants::{
+    GREATEST_DENSITY, GREATEST_FORCE, GREATEST_POPULATION, GREATEST_RATE, LEAST_DENSITY, MAX_Q,
+    UNIT,
+};
 pub use equilibrium::first_pops;
 pub use force::Force;
 pub use moments::{in_limits, moment};
-pub use populations::{MAX_Q, Moment, Pops, UNIT};
+pub use populations::{Moment, Pops};
 pub use rates::Rates;
 pub use reflection::bounce;

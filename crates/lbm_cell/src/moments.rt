@@ -6,7 +6,8 @@ ghost use Rattle.lbm_space.specs.Stencil.{velocity};
 ghost use Rattle.lbm_cell.specs.Moments.{populations, density, momentum_part, in_limits};
 
 use crate::arithmetic::{product, sum};
-use crate::populations::{Moment, Pops, UNIT};
+use crate::constants::{GREATEST_DENSITY, LEAST_DENSITY};
+use crate::populations::{Moment, Pops};
 use lbm_space::VelocitySet;
 
 /// The density of a cell, the sum of its populations, and the momentum, the sum of its populations,
@@ -73,5 +74,5 @@ pub fn in_limits<V: VelocitySet>(f: &Pops) -> bool
         }
     }
     let rho = density::<V>(f);
-    UNIT / 2 <= rho && rho <= 2 * UNIT
+    LEAST_DENSITY <= rho && rho <= GREATEST_DENSITY
 }

@@ -1,16 +1,12 @@
 //! What a cell holds.
 
 ghost use Rattle.std.specs.Prelude.{◌≡◌, ℕ, ◌<◌, ◌≤◌, pos, ◌≤ℤ◌, unsigned_abs};
+ghost use Rattle.lbm_cell.specs.Limits.{greatest_first_density};
 ghost use Rattle.lbm_cell.specs.Collision.{with_rest};
 
 use crate::arithmetic::{difference, sum};
+use crate::constants::MAX_Q;
 use lbm_space::VelocitySet;
-
-/// The most directions that a set may have.
-pub const MAX_Q: usize = 27;
-
-/// The unit of density, 216 * 4096. A fluid at rest has this density where a case names no other.
-pub const UNIT: i64 = 884736;
 
 /// The populations of a cell, one for each direction of its set, and zeros past them.
 #[derive(Clone, Copy, Debug, PartialEq, Eq)]
@@ -31,7 +27,7 @@ impl Pops {
     // The moving populations as they are, and at rest what is left of the density.
     #[inline]
     pub(crate) fn with_rest<V: VelocitySet>(self, rho: i64) -> Pops
-        requires density { unsigned_abs rho ≤ 4194304 }
+        requires density { unsigned_abs rho ≤ greatest_first_density }
         requires moving { (i : ℕ) → 0 < i → i < V.stencil.directions → unsigned_abs (populations self.f i) ≤ 782757789696 }
         requires zeros { (i : ℕ) → V.stencil.directions ≤ i → populations self.f i ≡ pos 0 }
         ensures values { (i : ℕ) → i < V.stencil.directions → populations result.f i ≡ with_rest V.stencil rho (populations self.f) i }

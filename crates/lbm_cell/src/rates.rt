@@ -3,6 +3,7 @@
 ghost use Rattle.std.specs.Prelude.{◌≡◌, SomeIff};
 ghost use Rattle.lbm_cell.specs.Collision.{RelaxationRates, IsRates, rates};
 
+use crate::constants::GREATEST_RATE;
 use std::marker::Model;
 
 /// Two relaxation times: p / q and m / q.
@@ -35,7 +36,11 @@ impl Rates {
     pub fn trt(p: i64, m: i64, q: i64) -> Option<Rates>
         ensures { SomeIff result (IsRates (rates p m q)) (rates p m q) }
     {
-        if p < 1 || p > 1024 || m < 1 || m > 1024 || q < 1 || q > 1024 || p >= 2 * q || m >= 2 * q {
+        let range = 1..=GREATEST_RATE;
+        if !range.contains(&p) || !range.contains(&m) || !range.contains(&q) {
+            return None;
+        }
+        if p >= 2 * q || m >= 2 * q {
             return None;
         }
         Some(Rates { p, m, q })

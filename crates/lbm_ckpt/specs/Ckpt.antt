@@ -1,11 +1,13 @@
 -- The bytes of a checkpoint in both versions, and what bytes are read as.
-use Rattle.std.specs.Prelude.{◌≡◌, ℕ, ◌+◌, ◌-◌, ◌*◌, ◌/◌, ◌^◌, Bool, true, false, not, ◌&&◌, ◌||◌, ◌==◌, nat_lt, nat_le, if◌then◌else◌, List, ◌++◌, length, take, drop, map, codes, ℤ, unsigned_abs, Option, Some, None, ok_or, Result, Ok, Err, IsOk}
+use Rattle.std.specs.Prelude.{◌≡◌, ℕ, ◌+◌, ◌-◌, ◌*◌, ◌/◌, Bool, true, false, not, ◌&&◌, ◌||◌, ◌==◌, nat_lt, nat_le, if◌then◌else◌, List, ◌++◌, length, take, drop, map, codes, ℤ, unsigned_abs, Option, Some, None, ok_or, Result, Ok, Err, IsOk}
 use Rattle.std.specs.Int.{w32, w64, to_be_bytes, from_be_bytes, cast_signed, cast_unsigned}
 use Rattle.std.specs.List.{flat_map, list_all}
 use Rattle.std.specs.Simd.{first_chunks}
 use Rattle.std.specs.Str.{bytes_eq}
 use Rattle.sha2.specs.Sha256.{sha256}
 use Rattle.lbm_space.specs.Torus.{Torus, cells}
+use Rattle.lbm_cell.specs.Limits.{greatest_population}
+use Rattle.lbm_model.specs.Limits.{most_steps}
 use Rattle.lbm_model.specs.Refusals.{◌>>=◌, demand}
 use Rattle.lbm_model.specs.State.{FlowState, flow_state}
 use Rattle.lbm_ckpt.specs.declared.version.Version.{Version}
@@ -113,7 +115,7 @@ abbrev pub is_fitting : Version → Torus → ℕ → List ℕ → Bool
 is_fitting version space q bytes = bytes_eq (box_of version bytes) (box version space q) && (length bytes == size version space q)
 
 abbrev pub is_narrow : ℤ → Bool
-is_narrow z = nat_le (unsigned_abs z) (2 ^ 28)
+is_narrow z = nat_le (unsigned_abs z) greatest_population
 
 -- The step and the state of a file of either version, for a case with this digest, this box and this number of directions,
 -- or the first of seven refusals, one a line.
@@ -123,7 +125,7 @@ checkpoint_of digest space q bytes = do
   version ← ok_or (version_of bytes) Magic
   same ← demand (bytes_eq (case_digest_of bytes) digest) OtherCase
   fitting ← demand (is_fitting version space q bytes) Size
-  near ← demand (nat_le (step_of bytes) 1000000) Step
+  near ← demand (nat_le (step_of bytes) most_steps) Step
   whole ← demand (bytes_eq (seal_of bytes) (sha256 (content_of bytes))) Digest
   narrow ← demand (list_all is_narrow (populations_of version bytes)) Wide
   Ok (step_of bytes, flow_state q (populations_of version bytes))

@@ -1,15 +1,16 @@
 -- What holds of the bytes of checkpoints and of their reading.
 use Rattle.std.specs.Prelude.{◌≡◌, ◌⊎◌, ℕ, ◌*◌, ◌<◌, ◌≤◌, List, length, All, Ok}
 use Rattle.lbm_space.specs.Torus.{Torus, cells}
+use Rattle.lbm_model.specs.Limits.{most_steps}
 use Rattle.lbm_model.specs.State.{FlowState}
 use Rattle.lbm_model.specs.Small.{IsNarrow}
 use Rattle.lbm_ckpt.specs.declared.version.Version.{Version}
 use Rattle.lbm_ckpt.specs.Ckpt.{checkpoint_of, checkpoint, ckpt, ckpt_1, size}
 
--- what a checkpoint can tell: a step up to 1,000,000, and a state of the space in which no population is above 2^28 in size
+-- what a checkpoint can tell: a step of a run, and a state of the space in which no population is larger than one of a first state may be
 pub record CanBeKept (digest : List ℕ) (step : ℕ) (space : Torus) (s : FlowState) : Type 0 where
   pub digest_bytes : length digest ≡ 32
-  pub near : step ≤ 1000000
+  pub near : step ≤ most_steps
   pub whole : length s.numbers ≡ s.directions * cells space
   pub narrow : IsNarrow s
 

@@ -4,6 +4,7 @@ ghost use Rattle.std.specs.Prelude.{◌≡◌, ◌*◌, ◌≤◌, length, take,
 ghost use Rattle.std.specs.List.{flat_map, list_all};
 ghost use Rattle.lbm_ckpt.specs.Ckpt.{population_bytes, population_in, is_narrow};
 
+use lbm_cell::GREATEST_POPULATION;
 use std::alloc::{AllocError, Global};
 
 /// How many populations are put at once.
@@ -25,7 +26,7 @@ pub(crate) fn put_front(front: &mut [u8; 4096], pops: &[i32])
 pub(crate) fn are_narrow(fours: &[[u8; 4]]) -> bool
     ensures { result ≡ list_all (λ four. is_narrow (population_in four)) fours.now }
 {
-    fours.iter().all(|four| i32::from_be_bytes(*four).unsigned_abs() <= 268_435_456)
+    fours.iter().all(|four| i32::from_be_bytes(*four).unsigned_abs() <= GREATEST_POPULATION)
 }
 
 /// The populations that these bytes spell.

@@ -3,7 +3,9 @@
 ghost use Rattle.std.specs.Prelude.{◌≡◌, ◌+◌, ◌*◌, ◌<◌, ◌≤◌, length, drop, Ok, Err, IfOk, IfErr, OnOk};
 ghost use Rattle.std.specs.Str.{bytes_eq};
 ghost use Rattle.sha2.specs.Sha256.{sha256};
+ghost use Rattle.lbm_space.specs.Limits.{most_directions};
 ghost use Rattle.lbm_space.specs.Torus.{IsSpace, cells};
+ghost use Rattle.lbm_model.specs.Limits.{most_steps};
 ghost use Rattle.lbm_model.specs.State.{flow_state};
 ghost use Rattle.lbm_model.specs.Small.{IsNarrow};
 ghost use Rattle.lbm_ckpt.specs.declared.fault.CkptEnd.TheVariants.{Fault};
@@ -13,7 +15,7 @@ ghost use Rattle.lbm_ckpt.specs.Ckpt.{seal_of, step_of, Refuses};
 use crate::fault::{CkptEnd, CkptFault};
 use crate::populations::{are_narrow, populations};
 use crate::version::{Version, is_short};
-use lbm_model::State;
+use lbm_model::{MOST_STEPS, State};
 use lbm_space::Space;
 use sha2::{Digest, Sha256};
 use std::alloc::Global;
@@ -32,7 +34,7 @@ pub fn read_checkpoint(
     q: u32,
 ) -> Result<(u64, State), CkptEnd>
     requires some { 0 < q }
-    requires few { q ≤ 27 }
+    requires few { q ≤ most_directions }
     // What is read is the checkpoint of the bytes.
     ensures read { IfOk result (λ found.
         checkpoint_of case_digest.now space.now q bytes.now ≡ Ok found) }
@@ -41,7 +43,7 @@ pub fn read_checkpoint(
     // Where there is a fault, the first one is answered.
     ensures fault { IfErr (checkpoint_of case_digest.now space.now q bytes.now) (λ fault.
         result ≡ Err (Fault fault)) }
-    ensures step { IfOk result (λ found. found.0 ≤ 1000000) }
+    ensures step { IfOk result (λ found. found.0 ≤ most_steps) }
     ensures directions { IfOk result (λ found. found.1.directions ≡ q) }
     ensures cells { IfOk result (λ found. length found.1.numbers ≡ q * cells space.now) }
     ensures narrow { IfOk result (λ found. IsNarrow found.1) }
@@ -69,7 +71,7 @@ fn check(bytes: &[u8], case_digest: &[u8; 32], space: &Space, q: u32) -> Result<
     if !version.fits(bytes, space, q) {
         return Err(CkptFault::Size);
     }
-    if step_of(bytes) > 1_000_000 {
+    if step_of(bytes) > u64::from(MOST_STEPS) {
         return Err(CkptFault::Step);
     }
     if !is_whole(bytes) {

@@ -12,11 +12,14 @@ use Rattle.lbm_answer.specs.Jobs.{CanBegin, Finishes, Leaves, LeavesOf}
 use Rattle.lbm_flow.specs.declared.run.RunEnd.{RunEnd}
 use Rattle.lbm_flow.specs.declared.run.RunEnd.TheVariants.{Range, Memory}
 use Rattle.lbm_flow.specs.Causes.{run_end}
-use Rattle.lbm_flow.specs.Running.{RunGives, after}
+use Rattle.lbm_flow.specs.Running.{RunGives, after, beginning_of}
 
 -- a pattern that stands for where a run begins
 abbrev pub at_beginning : FlowCase → Beginning → Standing
 at_beginning case begin = record { case = case; time = begin.time; spent = None; state = begin.state }
+
+pub begins_at : (now : Standing) → now.spent ≡ None → now ≡ at_beginning now.case (beginning_of now)
+begins_at now free = λ j. record now { spent = free j }
 
 -- steps keep to the states of the case
 is_state-after : (case : FlowCase) (s : FlowState) (n : ℕ) → IsStateOf case s → IsStateOf case (after case s n)

@@ -6,6 +6,7 @@ use Rattle.lbm_model.specs.Flow.{next, out_of_limits, run, reached, range}
 use Rattle.lbm_model.specs.Standing.{Standing}
 use Rattle.lbm_model.specs.declared.pattern.StepEnd.{StepEnd}
 use Rattle.lbm_model.specs.declared.pattern.StepEnd.TheVariants as step_ends
+use Rattle.lbm_answer.specs.Outcome.{Beginning}
 use Rattle.lbm_flow.specs.declared.run.RunEnd.{RunEnd}
 use Rattle.lbm_flow.specs.declared.run.RunEnd.TheVariants.{Range, Memory}
 
@@ -42,3 +43,7 @@ RunGives wants old new steps (Err (Range step cell)) =
     × (step < steps → IsSpentAt old step cell new)
     × (step ≡ steps → Went old (steps - old.time) new)
 RunGives wants old new steps (Err Memory) = IsTrue wants × (n : ℕ) × Went old n new
+
+-- where a run begins that a pattern goes on with
+abbrev pub beginning_of : Standing → Beginning
+beginning_of now = record { state = now.state; time = now.time }

@@ -1,16 +1,20 @@
 // The run of a case by a pattern, and what its last state leaves.
-ghost use Rattle.std.specs.Prelude.{◌≡◌, ◌≤◌};
+ghost use Rattle.std.specs.Prelude.{◌≡◌, ◌≤◌, None};
 ghost use Rattle.lbm_space.specs.Torus.{rows as row_count};
 ghost use Rattle.lbm_space.specs.Cuttings.{rows_of};
+ghost use Rattle.lbm_model.specs.Limits.{most_steps};
+ghost use Rattle.lbm_rows.specs.Tiles.{IsDivision};
 ghost use Rattle.lbm_answer.specs.Jobs.{CanBegin, Finishes, beginning_view};
+ghost use Rattle.lbm_flow.specs.Running.{beginning_of};
 
 use crate::End;
 use crate::run::run_pattern;
 use lbm_aa::AaSteps;
 use lbm_answer::{Beginning, Left, conclude};
 use lbm_grid::GridSweeps;
-use lbm_lattice::{ArrayLattice, Propagation};
+use lbm_lattice::{ArrayLattice, Pattern, Propagation};
 use lbm_model::{Case, Gate, at_set};
+use lbm_rows::{Division, Tiles};
 use lbm_space::{Cutting, VelocitySet};
 use lbm_swap::SwapPasses;
 use lbm_two::TwoLattices;
@@ -19,12 +23,13 @@ use std::alloc::{Allocator, Global};
 use std::marker::Sync;
 use std::thread::Threads;
 
-/// What is run: a case from where it begins to the last step, over the slabs of a cutting.
+/// What is run: a case from where it begins to the last step, over the slabs of a cutting, or over tiles.
 #[derive(Drop)]
 pub(crate) struct Course {
     pub(crate) case: Case,
     pub(crate) begin: Beginning,
     pub(crate) cut: Cutting,
+    pub(crate) division: Division,
     pub(crate) steps: u32,
 }
 
@@ -37,9 +42,10 @@ pub(crate) fn finish<A: Allocator + Copy, G: Gate, R: Threads + Sync>(
     pattern: PatternKind,
     gate: &G,
 ) -> Result<Left, End>
-    requires few { course.steps ≤ 1000000 }
+    requires few { course.steps ≤ most_steps }
     requires begin { CanBegin course.case course.steps (beginning_view course.begin) }
     requires cutting { rows_of course.cut ≡ row_count course.case.torus }
+    requires division { IsDivision (row_count course.case.torus) course.division.per_tile course.division.workers }
     ensures { Finishes course.case course.steps (beginning_view course.begin) result }
 {
     at_set!(
@@ -58,9 +64,10 @@ fn finish_by<V: VelocitySet + Sync, A: Allocator + Copy, G: Gate, R: Threads + S
     gate: &G,
 ) -> Result<Left, End>
     requires set { course.case.stencil ≡ V.stencil }
-    requires few { course.steps ≤ 1000000 }
+    requires few { course.steps ≤ most_steps }
     requires begin { CanBegin course.case course.steps (beginning_view course.begin) }
     requires cutting { rows_of course.cut ≡ row_count course.case.torus }
+    requires division { IsDivision (row_count course.case.torus) course.division.per_tile course.division.workers }
     ensures { Finishes course.case course.steps (beginning_view course.begin) result }
 {
     match pattern {
@@ -71,8 +78,8 @@ fn finish_by<V: VelocitySet + Sync, A: Allocator + Copy, G: Gate, R: Threads + S
         PatternKind::Grid => {
             finish_in::<V, A, GridSweeps<A>, G, R>(rt, alloc, heap, course, gate)
         }
-        // Tiles are stood in for by the pattern that works in place.
-        _ => finish_in::<V, A, AaSteps, G, R>(rt, alloc, heap, course, gate),
+        PatternKind::Aa => finish_in::<V, A, AaSteps, G, R>(rt, alloc, heap, course, gate),
+        PatternKind::Tiles => finish_in_tiles::<V, G, R>(rt, alloc, course, gate),
     }
 }
 
@@ -87,7 +94,7 @@ fn finish_in<V: VelocitySet, A: Allocator + Copy, P: Propagation<V, A>, G: Gate,
 where
     P::Work: Sync,
     requires set { course.case.stencil ≡ V.stencil }
-    requires few { course.steps ≤ 1000000 }
+    requires few { course.steps ≤ most_steps }
     requires begin { CanBegin course.case course.steps (beginning_view course.begin) }
     requires cutting { rows_of course.cut ≡ row_count course.case.torus }
     ensures { Finishes course.case course.steps (beginning_view course.begin) result }
@@ -96,10 +103,54 @@ where
         case,
         begin,
         cut,
+        division: _,
         steps,
     } = course;
     let Beginning { state, time } = begin;
-    let mut lattice = ArrayLattice::<V, A, P>::start(heap, case, &state, time, cut)?;
+    let lattice = ArrayLattice::<V, A, P>::start(heap, case, &state, time, cut)?;
+    finish_from(rt, alloc, lattice, steps, gate)
+}
+
+// The same by tiles, whose rows stand on the heap of what allocates.
+fn finish_in_tiles<V: VelocitySet + Sync, G: Gate, R: Threads + Sync>(
+    rt: &R,
+    alloc: Global,
+    course: Course,
+    gate: &G,
+) -> Result<Left, End>
+    requires set { course.case.stencil ≡ V.stencil }
+    requires few { course.steps ≤ most_steps }
+    requires begin { CanBegin course.case course.steps (beginning_view course.begin) }
+    requires division { IsDivision (row_count course.case.torus) course.division.per_tile course.division.workers }
+    ensures { Finishes course.case course.steps (beginning_view course.begin) result }
+{
+    let Course {
+        case,
+        begin,
+        cut: _,
+        division,
+        steps,
+    } = course;
+    let Beginning { state, time } = begin;
+    let Division { per_tile, workers } = division;
+    let lattice = Tiles::<V>::start(alloc, case, &state, time, per_tile, workers)?;
+    finish_from(rt, alloc, lattice, steps, gate)
+}
+
+// Steps a lattice that stands for where a run begins.
+fn finish_from<G: Gate, P: Pattern<G> + Drop, R: Threads + Sync>(
+    rt: &R,
+    alloc: Global,
+    lattice: P,
+    steps: u32,
+    gate: &G,
+) -> Result<Left, End>
+    requires few { steps ≤ most_steps }
+    requires unspent { (P.standing lattice).spent ≡ None }
+    requires begin { CanBegin (P.standing lattice).case steps (beginning_of (P.standing lattice)) }
+    ensures { Finishes (P.standing lattice).case steps (beginning_of (P.standing lattice)) result }
+{
+    let mut lattice = lattice;
     run_pattern(rt, &mut lattice, u64::from(steps), gate)?;
-    Ok(conclude::<ArrayLattice<V, A, P>, R>(rt, alloc, &lattice)?)
+    Ok(conclude::<P, R>(rt, alloc, &lattice)?)
 }

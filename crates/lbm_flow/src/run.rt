@@ -1,5 +1,6 @@
 // A run of a pattern.
 ghost use Rattle.std.specs.Prelude.{◌≡◌, ◌≤◌, IsNone};
+ghost use Rattle.lbm_model.specs.Limits.{most_steps};
 ghost use Rattle.lbm_flow.specs.Causes.{run_end};
 ghost use Rattle.lbm_flow.specs.Running.{RunGives, ended};
 
@@ -55,7 +56,7 @@ pub fn run_pattern<R: Threads + Sync, G: Gate, P: Pattern<G>>(
 ) -> Result<(), RunEnd>
     requires unspent { IsNone (P.standing pattern.old).spent }
     requires ahead { (P.standing pattern.old).time ≤ steps }
-    requires few { steps ≤ 1000000 }
+    requires few { steps ≤ most_steps }
     ensures { RunGives P.WANTS_MEMORY (P.standing pattern.old) (P.standing pattern.new) steps result }
 {
     for step in pattern.time()..steps {

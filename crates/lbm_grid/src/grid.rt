@@ -16,7 +16,7 @@ ghost use Rattle.lbm_grid.specs.Sweeps.{base_of, far, layout_before, step_of, ta
 use crate::near::Near;
 use crate::strips::{Saved, Strips};
 use crate::way::{Falling, Rising, Way};
-use lbm_arrays::{Either, ForFirst, ForSecond, Forks, Region, Step, shifts};
+use lbm_arrays::{Either, ForFirst, ForSecond, Forks, Inputs, Region, Step, shifts};
 use lbm_lattice::{ArrayLattice, Propagation};
 use lbm_model::{Case, Layout};
 use lbm_space::{Cutting, Memory, VelocitySet};
@@ -157,7 +157,12 @@ fn sweep<V: VelocitySet, W: Way, A: Allocator, C: Forks<Collision<V, Near<V, W>>
         space,
         writes,
     };
-    collide(crew, region, pass, case, kept, begins, moved, cut)
+    let inputs = Inputs {
+        case,
+        read: kept,
+        places: begins,
+    };
+    collide(crew, region, pass, &inputs, moved, cut)
 }
 
 // How it moves the ranges.

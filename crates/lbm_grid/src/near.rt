@@ -7,10 +7,10 @@ ghost use Rattle.lbm_space.specs.Torus.{rows as row_count};
 ghost use Rattle.lbm_arrays.specs.Lent.{first_slot, Place};
 ghost use Rattle.lbm_sweep.specs.Held.{width, IsWithin};
 ghost use Rattle.lbm_sweep.specs.Slabs.{Ranges};
-ghost use Rattle.lbm_grid.specs.Near.{read_place, reading_at, reading_of, seen, taken_near, AreBetween, AreOwn, AreThere, IsNear, OwnBegin};
+ghost use Rattle.lbm_grid.specs.Near.{read_place, reading_at, reading_of, seen, taken_near, AreBetween, AreOwn, AreThere, IsNear, IsOutside, OwnBegin};
 ghost use Rattle.lbm_grid.specs.NearLaws.{seen_pending, seen_still};
 
-use crate::reading::{Reading, bounds, is_whole, lanes_near, place_near, reading_for};
+use crate::reading::{Reading, bounds, is_outside, lanes_near, place_near, reading_for};
 use crate::way::Way;
 use lbm_arrays::Loan;
 use lbm_space::{Space, VelocitySet};
@@ -93,22 +93,6 @@ struct PlacesNear<'s, W: Way> {
     to: Slots,
 }
 
-impl<W: Way> PlacesNear<'_, W> {
-    // What cells take of which some may be saved, or that are fewer than eight. Few are, so it stands apart.
-    #[cold]
-    #[inline(never)]
-    fn take_saved<V: VelocitySet>(&self, loan: &Loan<'_>, dir: usize, at: u32, n: u32) -> [i64; 8]
-        requires known { dir < V.stencil.directions }
-        requires within { IsWithin V.stencil.directions loan.now.ranges at n }
-        requires begin { OwnBegin V.stencil.directions loan.now.place self.now.to }
-        requires there_are { AreThere W.RISES V.stencil.directions (length self.now.saved.now) (width loan.now.ranges) self.now.readings }
-        ensures cells { (j : ℕ) → j < n → slice_index_or result j (pos 0) ≡ seen W.RISES self.now.saved.now loan.now.ranges dir (reading_at self.now.readings dir) (at + j) }
-        ensures past { (j : ℕ) → n ≤ j → slice_index_or result j (pos 0) ≡ pos 0 }
-    {
-        lanes_near::<W>(loan, self.saved, self.to[dir], self.readings[dir], at, n)
-    }
-}
-
 impl<V: VelocitySet, W: Way> Taking<V> for PlacesNear<'_, W> {
     ghost RISES = { W.RISES };
 
@@ -118,6 +102,10 @@ impl<V: VelocitySet, W: Way> Taking<V> for PlacesNear<'_, W> {
 
     ghost taken = { λ w lent i p. seen W.RISES w.saved.now lent.ranges i (reading_at w.readings i) p };
 
+    ghost clear = { λ w at. IsOutside w.least w.most at 8 };
+
+    ghost clear_once = { λ w at. Prim.hlevel props };
+
     #[inline(always)]
     fn rises() -> bool
         ensures { result ≡ W.RISES }
@@ -125,15 +113,19 @@ impl<V: VelocitySet, W: Way> Taking<V> for PlacesNear<'_, W> {
         W::rises()
     }
 
-    // A call: its two ways, written into each pair of the kernel, would keep the pairs from folding.
-    #[inline(never)]
     fn take(&self, loan: &Loan<'_>, dir: usize, at: u32, n: u32) -> [i64; 8] {
-        let whole = is_whole(self.least, self.most, at, n);
-        if whole {
-            let place = place_near::<W>(at, self.readings[dir].far);
-            return loan.load_at(self.to[dir], place, n);
-        }
-        self.take_saved::<V>(loan, dir, at, n)
+        lanes_near::<W>(loan, self.saved, self.to[dir], self.readings[dir], at, n)
+    }
+
+    #[inline(always)]
+    fn is_clear(&self, at: u32) -> bool {
+        is_outside(self.least, self.most, at)
+    }
+
+    #[inline(always)]
+    fn take_clear(&self, loan: &Loan<'_>, dir: usize, at: u32) -> [i64; 8] {
+        let place = place_near::<W>(at, self.readings[dir].far);
+        loan.load_at(self.to[dir], place, 8)
     }
 
     ghost still_fits = { λ w writes a b from to but fit. (fit.0, λ i known. fit.1 i known ∙ ap (λ (p : Place). first_slot p i) (sym but.place), subst (λ (len : ℕ). AreThere W.RISES V.stencil.directions (length w.saved.now) len w.readings) (sym but.wide) fit.2, fit.3) };

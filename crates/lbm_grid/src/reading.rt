@@ -87,18 +87,17 @@ pub(crate) fn bounds<V: VelocitySet>(readings: &[Reading]) -> (u32, u32)
     (least, most)
 }
 
-/// Whether the `n` places from `at` on are eight, and none of them is one of those from `least` up to, not including, `most`.
-/// (So the kernel folds over a run that is known to be eight long.)
+/// Whether none of the eight places from `at` on is one of those from `least` up to, not including, `most`.
 #[inline(always)]
-pub(crate) fn is_whole(least: u32, most: u32, at: u32, n: u32) -> bool
-    requires { at + n < 2 ^ 32 }
-    ensures { result ≡ true → IsOutside least most at n }
+pub(crate) fn is_outside(least: u32, most: u32, at: u32) -> bool
+    ensures { result ≡ true → IsOutside least most at 8 }
 {
-    n == 8 && (at + n <= least || most <= at)
+    most <= at || at < least && least - at >= 8
 }
 
 /// What cells take from an array: those of the `n` places, 1 to 8, from `at` on. Its range begins at slot `slot` of the
 /// loan. The other lanes are 0.
+#[inline(never)]
 pub(crate) fn lanes_near<W: Way>(
     loan: &Loan<'_>,
     saved: &[i64],

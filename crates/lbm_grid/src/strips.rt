@@ -78,15 +78,11 @@ impl<A: Allocator> Strips<A> {
         ensures saved { AreSaved space.now V.stencil rises cut.now self.new.begins.items self.new.width from.now.margin from.now.base (slabs_of cut.now) from.now.slots.now self.new.kept.items }
         ensures rooms { AreRooms space.now V.stencil cut.now self.new.begins.items self.new.width (length self.new.kept.items) }
     {
-        save_all::<V>(
-            self.kept.as_mut_slice(),
-            self.begins.as_slice(),
-            self.width,
-            from,
-            space,
-            cut,
-            rises,
-        );
+        let rooms = Rooms {
+            begins: self.begins.as_slice(),
+            width: self.width,
+        };
+        save_all::<V>(self.kept.as_mut_slice(), &rooms, from, space, cut, rises);
     }
 }
 
@@ -97,6 +93,13 @@ pub(crate) struct Saved<'a> {
     pub(crate) slots: &'a [i64],
     pub(crate) margin: u32,
     pub(crate) base: u32,
+}
+
+// Where the rooms are: that of the slab whose first row is a begins at place `begins[a]` of each array, which has `width`.
+#[derive(Drop)]
+struct Rooms<'a> {
+    begins: &'a [u32],
+    width: usize,
 }
 
 // Where the room of each slab begins, and how many places all slabs have of an array.
@@ -123,8 +126,7 @@ fn deal<V: VelocitySet>(begins: &mut [u32], space: &Space, cut: &Cutting) -> u32
 // Saves the strips of all slabs and arrays.
 fn save_all<V: VelocitySet>(
     kept: &mut [i64],
-    begins: &[u32],
-    width: usize,
+    rooms: &Rooms<'_>,
     from: &Saved<'_>,
     space: &Space,
     cut: &Cutting,
@@ -132,20 +134,19 @@ fn save_all<V: VelocitySet>(
 )
     requires from { AreArrays space.now V.stencil from.now.margin from.now.base from.now.slots.now }
     requires cutting { rows_of cut.now ≡ row_count space.now }
-    requires rooms { AreRooms space.now V.stencil cut.now begins.now width (length kept.old) }
-    ensures saved { AreSaved space.now V.stencil rises cut.now begins.now width from.now.margin from.now.base (slabs_of cut.now) from.now.slots.now kept.new }
+    requires rooms { AreRooms space.now V.stencil cut.now rooms.now.begins.now rooms.now.width (length kept.old) }
+    ensures saved { AreSaved space.now V.stencil rises cut.now rooms.now.begins.now rooms.now.width from.now.margin from.now.base (slabs_of cut.now) from.now.slots.now kept.new }
     ensures size { length kept.new ≡ length kept.old }
 {
     for j in 0..cut.slabs() {
-        save_slab::<V>(kept, begins, width, from, space, cut, rises, j);
+        save_slab::<V>(kept, rooms, from, space, cut, rises, j);
     }
 }
 
 // Saves the strips of slab `j`, one of each array.
 fn save_slab<V: VelocitySet>(
     kept: &mut [i64],
-    begins: &[u32],
-    width: usize,
+    rooms: &Rooms<'_>,
     from: &Saved<'_>,
     space: &Space,
     cut: &Cutting,
@@ -154,22 +155,22 @@ fn save_slab<V: VelocitySet>(
 )
     requires from { AreArrays space.now V.stencil from.now.margin from.now.base from.now.slots.now }
     requires cutting { rows_of cut.now ≡ row_count space.now }
-    requires rooms { AreRooms space.now V.stencil cut.now begins.now width (length kept.old) }
+    requires rooms { AreRooms space.now V.stencil cut.now rooms.now.begins.now rooms.now.width (length kept.old) }
     requires slab { j < slabs_of cut.now }
-    ensures saved { (k p : ℕ) → k < V.stencil.directions → IsSaved space.now V.stencil rises cut.now begins.now width from.now.margin from.now.base from.now.slots.now kept.new j k p }
-    ensures others { (i k p : ℕ) → i < slabs_of cut.now → i ≢ j → k < V.stencil.directions → IsSaved space.now V.stencil rises cut.now begins.now width from.now.margin from.now.base from.now.slots.now kept.old i k p → IsSaved space.now V.stencil rises cut.now begins.now width from.now.margin from.now.base from.now.slots.now kept.new i k p }
+    ensures saved { (k p : ℕ) → k < V.stencil.directions → IsSaved space.now V.stencil rises cut.now rooms.now.begins.now rooms.now.width from.now.margin from.now.base from.now.slots.now kept.new j k p }
+    ensures others { (i k p : ℕ) → i < slabs_of cut.now → i ≢ j → k < V.stencil.directions → IsSaved space.now V.stencil rises cut.now rooms.now.begins.now rooms.now.width from.now.margin from.now.base from.now.slots.now kept.old i k p → IsSaved space.now V.stencil rises cut.now rooms.now.begins.now rooms.now.width from.now.margin from.now.base from.now.slots.now kept.new i k p }
     ensures size { length kept.new ≡ length kept.old }
 {
     let _slabs = cut.slabs();
     let rows = cut.slab(j);
-    let room = begins[rows.0 as usize] as usize;
+    let room = rooms.begins[rows.0 as usize] as usize;
     let size = from.margin as usize + space.padded() as usize;
     for k in 0..V::Q {
         let (first, past) = strip::<V>(space, rises, k, rows);
         let place = k * size + (from.base + first) as usize;
         copy_run(
             kept,
-            k * width + room,
+            k * rooms.width + room,
             from.slots,
             place,
             (past - first) as usize,

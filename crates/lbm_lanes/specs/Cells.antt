@@ -1,6 +1,7 @@
 -- The cells of a block that collide, by natural numbers.
 use Rattle.std.specs.Prelude.{◌≡◌, ℕ, ◌+◌, ◌*◌, ◌/◌, ◌≤◌, Bool, true, List, [], ◌∷◌, ℤ, pos, ◌+ℤ◌, ◌-ℤ◌, ◌≤ℤ◌, IsTrue, unsigned_abs, nat_lt, slice_index, if◌then◌else◌}
 use Rattle.lbm_space.specs.Stencil.{Stencil}
+use Rattle.lbm_cell.specs.Limits.{least_density, greatest_density}
 use Rattle.lbm_cell.specs.Moments.{density, momentum, in_limits}
 use Rattle.lbm_cell.specs.Collision.{RelaxationRates, relaxation, push, collision, reflection}
 
@@ -14,8 +15,8 @@ own_square x y z =
 
 -- numbers that a lane may have: a density, its reciprocal, a momentum raised by 2^23, and 11 rho^2 less three times its square
 pub record IsSound (rho reciprocal base x y z : ℕ) : Type 0 where
-  pub not_thin : 442368 ≤ rho
-  pub not_dense : rho ≤ 1769472
+  pub not_thin : least_density ≤ rho
+  pub not_dense : rho ≤ greatest_density
   pub reciprocal_is : reciprocal ≡ 562949953421312 / rho
   pub base_is : base + 3 * own_square x y z ≡ 11 * (rho * rho)
   pub x_small : unsigned_abs (pos x -ℤ pos 8388608) ≤ rho
@@ -38,8 +39,8 @@ pub record IsWithin (chosen : Bool) (rho x y z : ℤ) : Type 0 where
   pub x_small : unsigned_abs x ≤ 57982058496
   pub y_small : unsigned_abs y ≤ 57982058496
   pub z_small : unsigned_abs z ≤ 57982058496
-  pub not_thin : chosen ≡ true → pos 442368 ≤ℤ rho
-  pub not_dense : chosen ≡ true → rho ≤ℤ pos 1769472
+  pub not_thin : chosen ≡ true → pos least_density ≤ℤ rho
+  pub not_dense : chosen ≡ true → rho ≤ℤ pos greatest_density
   pub x_within : chosen ≡ true → unsigned_abs x ≤ unsigned_abs rho
   pub y_within : chosen ≡ true → unsigned_abs y ≤ unsigned_abs rho
   pub z_within : chosen ≡ true → unsigned_abs z ≤ unsigned_abs rho

@@ -4,6 +4,8 @@
 --     u          the momentum along the velocity of the direction, and against that of its opposite
 --     f, o       the populations of the direction and of its opposite
 use Rattle.std.specs.Prelude.{◌≡◌, ℕ, ◌+◌, ◌-◌, ◌*◌, ◌/◌, ◌^◌, ◌<◌, ◌≤◌, ℤ, pos, ◌+ℤ◌, ◌-ℤ◌, ◌*ℤ◌}
+use Rattle.lbm_space.specs.Limits.{greatest_denominator}
+use Rattle.lbm_cell.specs.Limits.{least_density, greatest_density}
 use Rattle.lbm_cell.specs.Collision.{RelaxationRates, floor_div}
 
 -- how far a population is below its equilibrium, times 2 d rho
@@ -26,8 +28,8 @@ pub record IsOne (r : RelaxationRates) : Type 0 where
 
 -- a cell of density rho, with the reciprocal of rho, and of whose momentum the square is own
 pub record IsPrepared (rho reciprocal own base : ℕ) : Type 0 where
-  pub not_thin : 442368 ≤ rho
-  pub not_dense : rho ≤ 1769472
+  pub not_thin : least_density ≤ rho
+  pub not_dense : rho ≤ greatest_density
   pub reciprocal_is : reciprocal ≡ 562949953421312 / rho
   pub square : own ≤ 3 * (rho * rho)
   pub base_is : base + 3 * own ≡ 11 * (rho * rho)
@@ -37,7 +39,7 @@ pub record IsMoving (w d n : ℕ) : Type 0 where
   pub moves : 1 ≤ n
   pub axes : n ≤ 3
   pub some : 0 < d
-  pub small : d ≤ 216
+  pub small : d ≤ greatest_denominator
   pub weight : w ≤ 216
   pub light : w * (2 + 6 * n + 9 * n * n) ≤ 2 * d
 
@@ -61,8 +63,8 @@ pub record IsLane (w d p m q n r own base raised f o : ℕ) : Type 0 where
   pub rated : 0 < q
   pub p_stable : p ≤ 2 * q
   pub m_stable : m ≤ 2 * q
-  pub not_thin : 442368 ≤ r
-  pub not_dense : r ≤ 1769472
+  pub not_thin : least_density ≤ r
+  pub not_dense : r ≤ greatest_density
   pub square : own ≤ 3 * (r * r)
   pub base_is : base + 3 * own ≡ 11 * (r * r)
   pub forward : raised ≤ 8388608 + n * r

@@ -4,7 +4,7 @@ ghost use Rattle.std.specs.Prelude.{◌≡◌, ◌<◌, ◌≤◌, ◌^◌, ◌+
 ghost use Rattle.lbm_lanes.specs.Pairs.{above, below, balance, change, IsDivisor, IsLane, IsShared};
 
 use crate::quotient::{Divisor, by_density, by_written, near_by_density, small_by_density};
-use crate::vectors::{all, difference, multiple, product, sum};
+use crate::vectors::{all, difference, multiple, narrow_multiple, product, sum};
 use std::simd::prelude::*;
 
 // The square of a number that is given raised by 2^23.
@@ -270,7 +270,7 @@ fn balances(
     let held = multiple(9 * weight, rho);
     let lifted = sum(shared, all((2 * denominator - 6 * weight) * 8388608));
     let middle = difference(lifted, held);
-    let along = multiple(6 * weight, raised);
+    let along = narrow_multiple(6 * weight, raised);
     let ahead = sum(middle, along);
     let whole = sum(middle, all(weight * 100663296));
     let behind = difference(whole, along);

@@ -49,6 +49,17 @@ pub(crate) fn multiple(k: u64, a: u64x8) -> u64x8
     u64x8::splat(k).strict_mul(a)
 }
 
+// k a, for numbers that fit 32 bits
+#[inline(always)]
+pub(crate) fn narrow_multiple(k: u64, a: u64x8) -> u64x8
+    requires factor { k < 2 ^ 32 }
+    requires numbers { (l : ℕ) → l < 8 → slice_index a l < 2 ^ 32 }
+    requires room { (l : ℕ) → l < 8 → k * slice_index a l < 2 ^ 62 }
+    ensures { (l : ℕ) → l < 8 → slice_index result l ≡ k * slice_index a l }
+{
+    product(all(k), a)
+}
+
 #[inline(always)]
 pub(crate) fn cut(a: u64x8, shift: u32) -> u64x8
     requires { shift < 64 }

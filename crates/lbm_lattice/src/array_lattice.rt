@@ -3,17 +3,18 @@
 ghost use Rattle.std.specs.Prelude.{◌≡◌, ◌<◌, ◌≤◌, IfOk, None, false};
 ghost use Rattle.lbm_space.specs.Torus.{rows as row_count};
 ghost use Rattle.lbm_space.specs.Cuttings.{rows_of};
+ghost use Rattle.lbm_model.specs.Limits.{most_steps};
 ghost use Rattle.lbm_model.specs.Flow.{IsStateOf};
 ghost use Rattle.lbm_model.specs.Small.{IsNarrow};
 ghost use Rattle.lbm_model.specs.Layout.{StandsIn};
 ghost use Rattle.lbm_sweep.specs.Lattices.{standing_by};
 
-use crate::{Pattern, Propagation};
+use crate::{NoServing, Pattern, Propagation, Serves};
 use lbm_arrays::{Forks, Region};
 use lbm_model::{Case, Gate, Lattice, State, StepEnd};
 use lbm_space::{Cutting, Memory, VelocitySet};
-use lbm_sweep::{least_out_of_limits, place_state, population_at};
-use std::alloc::Allocator;
+use lbm_sweep::{least_out_of_limits, place_state, population_at, read_state};
+use std::alloc::{Allocator, Global};
 use std::marker::{Model, PhantomData, Sync};
 
 /// A lattice in padded arrays, one for each direction, that is advanced by the slabs of a cutting beside each other.
@@ -52,7 +53,7 @@ impl<V: VelocitySet, A: Allocator + Copy, P: Propagation<V, A>> ArrayLattice<V, 
         requires set { case.stencil ≡ V.stencil }
         requires state { IsStateOf case state.now }
         requires narrow { IsNarrow state.now }
-        requires time { t ≤ 1000000 }
+        requires time { t ≤ most_steps }
         requires cutting { rows_of cut ≡ row_count case.torus }
         ensures stands { IfOk result (λ p. standing_by (P.layout p.case) p ≡ record { case = case; time = t; spent = None; state = state.now }) }
         ensures no_memory { ⟦<Self as Lattice>⟧.WANTS_MEMORY ≡ false }
@@ -70,6 +71,13 @@ impl<V: VelocitySet, A: Allocator + Copy, P: Propagation<V, A>> ArrayLattice<V, 
             time: t,
             spent: None,
         })
+    }
+
+    /// The case. All else is given back.
+    pub fn into_case(self) -> Case
+        ensures { result ≡ self.case }
+    {
+        self.case
     }
 
     /// All slots of the region, array after array: a population stands where the pattern's layout of the time says.
@@ -105,6 +113,11 @@ impl<V: VelocitySet, A: Allocator + Copy, P: Propagation<V, A>> Lattice for Arra
         population_at::<V, A>(&self.region, &self.case, layout, cell, dir)
     }
 
+    fn state(&self, alloc: Global) -> Result<State, Memory> {
+        let layout = P::layout_at(&self.case, self.time);
+        read_state::<V, A>(alloc, &self.region, &self.case, layout)
+    }
+
     fn check(&self) -> Option<u32> {
         let layout = P::layout_at(&self.case, self.time);
         least_out_of_limits::<V, A>(&self.region, &self.case, layout)
@@ -118,7 +131,13 @@ where
 {
     type Work = P::Work;
 
-    fn step_by<C: Forks<P::Work>>(&mut self, crew: &C) -> Result<(), StepEnd> {
+    type Turns = NoServing;
+
+    fn step_by<C: Forks<P::Work>, S: Serves<NoServing>>(
+        &mut self,
+        crew: &C,
+        _servers: &S,
+    ) -> Result<(), StepEnd> {
         if let Some(cell) = self.spent {
             return Err(StepEnd::Range(cell));
         }

@@ -14,7 +14,7 @@ ghost use Rattle.lbm_sweep.specs.Steps.{IsStep, IsWritten};
 ghost use Rattle.lbm_sweep.specs.Lattices.{IsKept, IsLaidOut, AreWithin};
 ghost use Rattle.lbm_lattice.specs.InPlace.{own_layout, turned_layout, taken, sent_to};
 
-use lbm_arrays::{Forks, Region, Step, shifts};
+use lbm_arrays::{Forks, Inputs, Region, Step, shifts};
 use lbm_model::{Case, Layout};
 use lbm_space::{Cutting, VelocitySet};
 use lbm_sweep::{Collision, Directions, InPlace, collide, opposite_directions, same_directions};
@@ -86,7 +86,12 @@ pub fn sweep_in_place<V: VelocitySet, A: Allocator, C: Forks<Collision<V, InPlac
         space,
         writes: way.writes,
     };
-    collide(crew, region, pass, case, &[], &[], moved, cut)
+    let inputs = Inputs {
+        case,
+        read: &[],
+        places: &[],
+    };
+    collide(crew, region, pass, &inputs, moved, cut)
 }
 
 /// Each cell takes its populations from its own slots and puts what it sends into those of the opposite directions. The

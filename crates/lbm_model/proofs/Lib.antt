@@ -10,4 +10,6 @@ pub mod Local
 pub mod FirstLemmas
 pub mod States
 pub mod Worked
+pub mod RowPlaces
+pub mod Populations
 mod ZeroMask

@@ -4,6 +4,7 @@ use Rattle.std.specs.List.Sorted.{IsStrictlyIncreasing}
 use Rattle.lbm_space.specs.Sum.{sum_below}
 use Rattle.lbm_space.specs.Stencil.{Stencil, IsVelocitySet, part, velocity, opposite}
 use Rattle.lbm_space.specs.Torus.{Torus, IsSpace, cells, back}
+use Rattle.lbm_cell.specs.Limits.{least_density, greatest_first_density, greatest_first_momentum}
 use Rattle.lbm_cell.specs.Collision.{RelaxationRates, IsRates, IsForce, push}
 
 -- a case: all that a flow depends on
@@ -58,11 +59,11 @@ cell_gain case x = if is_solid case x then sum_below case.stencil.directions (ga
 abbrev pub all_gain : FlowCase → ℤ
 all_gain case = sum_below (cells case.torus) (cell_gain case)
 
--- the first densities of the cells of a box: 0 is a solid cell, and a fluid cell has 442368, half the unit, to 4194304
+-- the first densities of the cells of a box: 0 is a solid cell, and a fluid cell has no less than the least density in limits
 pub record AreDensities (t : Torus) (densities : List ℕ) : Type 0 where
   pub one_each : length densities ≡ cells t
-  pub not_thin : All (λ n. n ≢ 0 → 442368 ≤ n) densities
-  pub not_dense : All (λ n. n ≤ 4194304) densities
+  pub not_thin : All (λ n. n ≢ 0 → least_density ≤ n) densities
+  pub not_dense : All (λ n. n ≤ greatest_first_density) densities
 
 -- the parts of a vector past the dimension are 0
 abbrev pub IsFlat : ℕ → List ℤ → Type 0
@@ -70,7 +71,7 @@ IsFlat dimension u = (a : ℕ) → a < 3 → dimension ≤ a → part u a ≡ po
 
 -- the first momenta that are allowed
 pub record IsMomentum (dimension : ℕ) (j : List ℤ) : Type 0 where
-  pub small : (a : ℕ) → a < 3 → unsigned_abs (part j a) ≤ 884736
+  pub small : (a : ℕ) → a < 3 → unsigned_abs (part j a) ≤ greatest_first_momentum
   pub flat : IsFlat dimension j
 
 -- the moving cells are listed once each, in order, and are solid

@@ -1,5 +1,5 @@
 -- Where patterns keep the populations: in arrays, one behind the other, of `margin` slots more than the box has padded places.
-use Rattle.std.specs.Prelude.{◌≡◌, ℕ, ◌+◌, ◌*◌, ◌%◌, ◌<◌, nat_eq, true, false, List, ℤ, pos, slice_index_or, if◌then◌else◌}
+use Rattle.std.specs.Prelude.{◌≡◌, ℕ, ◌+◌, ◌*◌, ◌%◌, ◌<◌, ◌≤◌, nat_eq, true, false, List, ℤ, pos, slice_index_or, if◌then◌else◌}
 use Rattle.lbm_space.specs.Stencil.{Stencil, opposite}
 use Rattle.lbm_space.specs.Torus.{Torus, cells, padded}
 use Rattle.lbm_space.specs.Padded.{padded_index, reach}
@@ -19,6 +19,13 @@ stands_at case layout x i = if layout.behind then source case x i else x
 -- its slot in its array
 abbrev pub place_of : FlowCase → Layout → ℕ → ℕ → ℕ
 place_of case layout x i = layout.base + padded_index case.torus (stands_at case layout x i)
+
+-- The places of population i along a row follow each other round: the last one is followed by the first. That of the row's first cell lies
+-- `round.1` places behind `round.0`, the first one.
+pub record IsRound (case : FlowCase) (layout : Layout) (row i : ℕ) (round : ℕ × ℕ) : Type 0 where
+  pub known : round.1 < case.torus.nx
+  pub inside : round.0 + case.torus.nx ≤ layout.margin + padded case.torus
+  pub place : (x : ℕ) → x < case.torus.nx → place_of case layout (row * case.torus.nx + x) i ≡ round.0 + (x + round.1) % case.torus.nx
 
 -- its slot among those of all arrays
 abbrev pub slot_of : FlowCase → Layout → ℕ → ℕ → ℕ

@@ -1,17 +1,19 @@
 -- How large populations become.
-use Rattle.std.specs.Prelude.{◌≡◌, ℕ, ◌+◌, ◌^◌, ◌<◌, ◌≤◌, unsigned_abs, All, if◌then◌else◌, None}
+use Rattle.std.specs.Prelude.{◌≡◌, ℕ, ◌+◌, ◌<◌, ◌≤◌, unsigned_abs, All, if◌then◌else◌, None}
 use Rattle.lbm_space.specs.Torus.{cells}
+use Rattle.lbm_cell.specs.Limits.{greatest_population}
+use Rattle.lbm_model.specs.Limits.{gain_bound}
 use Rattle.lbm_model.specs.State.{FlowState, population}
 use Rattle.lbm_model.specs.Case.{FlowCase, IsCase, is_solid}
 use Rattle.lbm_model.specs.Flow.{IsStateOf, first, next, out_of_limits, run, reached}
 
--- a state in which no population is above 2^28 in size
+-- a state in which no population is larger than one of a first state may be
 abbrev pub IsNarrow : FlowState → Type 0
-IsNarrow s = All (λ z. unsigned_abs z ≤ 2 ^ 28) s.numbers
+IsNarrow s = All (λ z. unsigned_abs z ≤ greatest_population) s.numbers
 
--- the greatest size of a population of cell x on the way: 2^28, and what a moving wall may add where the cell is fluid
+-- the greatest size of a population of cell x on the way: that of a first state, and where the cell is fluid what a moving wall may add
 abbrev pub size_limit : FlowCase → ℕ → ℕ
-size_limit case x = if is_solid case x then 2 ^ 28 else 2 ^ 28 + 2 ^ 15
+size_limit case x = if is_solid case x then greatest_population else greatest_population + gain_bound
 
 -- a state in which each population is within the limit of its cell, and so fits 32 signed bits
 pub record IsSmall (case : FlowCase) (s : FlowState) : Type 0 where

@@ -1,4 +1,5 @@
 use Rattle.std.specs.Prelude.{◌≡◌, ℕ, ◌+◌, ◌*◌, ◌/◌, ◌%◌, ◌<◌, ◌≤◌, List, length, ℤ, pos, ◌+ℤ◌, fold, slice_index_or}
+use Rattle.lbm_space.specs.Limits.{most_directions, most_places}
 use Rattle.lbm_space.specs.Sum.{list_below}
 
 -- the populations of all cells, in order of cell and then direction
@@ -24,9 +25,9 @@ state_of directions cells f = record {
 abbrev pub mass : FlowState → ℤ
 mass s = fold (λ a b. a +ℤ b) (pos 0) s.numbers
 
--- the states that can be kept: whole cells of 1 to 27 populations, of which there are at most 2^22
+-- the states that can be kept: whole cells, each with as many populations as a set has directions, and no more of them than a box has places
 pub record IsState (s : FlowState) : Type 0 where
   pub some_direction : 0 < s.directions
-  pub few_directions : s.directions ≤ 27
+  pub few_directions : s.directions ≤ most_directions
   pub whole_cells : length s.numbers % s.directions ≡ 0
-  pub few_cells : length s.numbers ≤ 4194304 * s.directions
+  pub few_cells : length s.numbers ≤ most_places * s.directions

@@ -5,6 +5,7 @@ ghost use Rattle.std.specs.Int.{bit_at};
 ghost use Rattle.std.specs.List.{list_any};
 ghost use Rattle.std.specs.List.Sorted.{IsStrictlyIncreasing};
 ghost use Rattle.lbm_space.specs.Torus.{cells};
+ghost use Rattle.lbm_cell.specs.Limits.{least_density, greatest_first_density};
 
 use crate::sets::SetKind;
 use lbm_cell::{Force, Rates};
@@ -24,6 +25,13 @@ pub struct Case {
     force: Force,
     momentum: [i64; 3],
     wall: Force,
+}
+
+/// The walls that move: solid cells in rising order, and their velocity, whose parts past the dimension are 0.
+#[derive(Debug, Drop)]
+pub struct MovingWalls {
+    pub cells: Vec<u32>,
+    pub velocity: Force,
 }
 
 impl Model for Case {
@@ -64,41 +72,42 @@ impl Case {
         ensures { let still = pos 0 ∷ pos 0 ∷ pos 0 ∷ [] in
             result ≡ case_of set space densities.items [] rates force momentum still }
     {
-        let moving = Vec::new(*densities.allocator());
-        let still = Force::new(0, 0, 0).unwrap();
-        Case::with_wall(set, space, densities, moving, rates, force, momentum, still)
+        let walls = MovingWalls {
+            cells: Vec::new(*densities.allocator()),
+            velocity: Force::new(0, 0, 0).unwrap(),
+        };
+        Case::with_wall(set, space, densities, rates, force, momentum, walls)
     }
 
-    /// A case in which the solid cells that `moving` lists in rising order move with the velocity `wall`, whose
-    /// parts past the dimension are 0. The others are as for a case without moving walls.
+    /// A case with moving walls. All else is as for a case without them.
     pub fn with_wall(
         set: SetKind,
         space: Space,
         densities: Vec<u32>,
-        moving: Vec<u32>,
         rates: Rates,
         force: Force,
         momentum: [i64; 3],
-        wall: Force,
+        walls: MovingWalls,
     ) -> Case
         requires dimension { space.dimension ≡ (stencil_of set).dimension }
         requires densities { AreDensities space densities.items }
-        requires moving { AreMoving densities.items moving.items }
+        requires moving { AreMoving densities.items walls.cells.items }
         requires momentum { IsMomentum (stencil_of set).dimension momentum }
-        requires wall { IsFlat (stencil_of set).dimension wall }
-        ensures { result ≡ case_of set space densities.items moving.items rates force momentum wall }
+        requires wall { IsFlat (stencil_of set).dimension walls.velocity }
+        ensures { result ≡ case_of set space densities.items walls.cells.items rates force momentum walls.velocity }
     {
+        let MovingWalls { cells, velocity } = walls;
         // Their types keep these in range.
-        let _ = (space.cells(), rates.q(), force.parts(), wall.parts());
+        let _ = (space.cells(), rates.q(), force.parts(), velocity.parts());
         Case {
             set,
             space,
             densities,
-            moving,
+            moving: cells,
             rates,
             force,
             momentum,
-            wall,
+            wall: velocity,
         }
     }
 
@@ -143,8 +152,8 @@ impl Case {
     pub fn density(&self, cell: u32) -> u32
         requires { cell < cells self.now.torus }
         ensures value { result ≡ first_density self.now cell }
-        ensures not_thin { result ≢ 0 → 442368 ≤ result }
-        ensures not_dense { result ≤ 4194304 }
+        ensures not_thin { result ≢ 0 → least_density ≤ result }
+        ensures not_dense { result ≤ greatest_first_density }
         ensures valid { IsCase self.now }
     {
         self.densities[cell as usize]

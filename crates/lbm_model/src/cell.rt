@@ -1,8 +1,9 @@
 //! What one cell does in a step.
 
-ghost use Rattle.std.specs.Prelude.{◌≡◌, ◌<◌, ◌≤◌, ◌^◌, ℕ, pos, IsTrue, false, unsigned_abs, FitsSigned};
+ghost use Rattle.std.specs.Prelude.{◌≡◌, ◌<◌, ◌≤◌, ℕ, pos, IsTrue, false, unsigned_abs, FitsSigned};
 ghost use Rattle.std.specs.Int.{w32};
 ghost use Rattle.lbm_space.specs.Torus.{cells};
+ghost use Rattle.lbm_cell.specs.Limits.{greatest_population};
 ghost use Rattle.lbm_cell.specs.Moments.{populations};
 ghost use Rattle.lbm_model.specs.Case.{is_solid, target};
 ghost use Rattle.lbm_model.specs.Flow.{is_sound, post};
@@ -29,7 +30,7 @@ fn reflected<V: VelocitySet>(case: &Case, cell: u32, f: &Pops) -> Pops
     requires cell { cell < cells case.now.torus }
     requires solid { IsTrue (is_solid case.now cell) }
     requires small { (i : ℕ) → i < V.stencil.directions →
-        unsigned_abs (populations f.now.f i) ≤ 2 ^ 28 }
+        unsigned_abs (populations f.now.f i) ≤ greatest_population }
     ensures post { (i : ℕ) → i < V.stencil.directions →
         populations result.f i ≡ post case.now cell (populations f.now.f) i }
     ensures zeros { (i : ℕ) → V.stencil.directions ≤ i → populations result.f i ≡ pos 0 }
@@ -59,7 +60,7 @@ pub fn post<V: VelocitySet>(case: &Case, cell: u32, f: &Pops) -> Pops
     ensures small { (i : ℕ) → i < V.stencil.directions →
         unsigned_abs (populations result.f i) ≤ size_limit case.now (target case.now cell i) }
     ensures fluid { is_solid case.now cell ≡ false →
-        (i : ℕ) → unsigned_abs (populations result.f i) < 2 ^ 28 }
+        (i : ℕ) → unsigned_abs (populations result.f i) < greatest_population }
 {
     if case.is_solid(cell) {
         reflected::<V>(case, cell, f)

@@ -1,8 +1,10 @@
 //! The first state of a case.
 
-ghost use Rattle.std.specs.Prelude.{◌≡◌, ◌<◌, ◌≤◌, ◌^◌, ◌++◌, ℕ, false, unsigned_abs, IfOk, OnOk};
+ghost use Rattle.std.specs.Prelude.{◌≡◌, ◌<◌, ◌≤◌, ◌++◌, ℕ, false, unsigned_abs, IfOk, OnOk};
+ghost use Rattle.lbm_space.specs.Limits.{most_directions};
 ghost use Rattle.lbm_space.specs.Sum.{list_below};
 ghost use Rattle.lbm_space.specs.Torus.{cells};
+ghost use Rattle.lbm_cell.specs.Limits.{greatest_population};
 ghost use Rattle.lbm_cell.specs.Moments.{populations};
 ghost use Rattle.lbm_model.specs.Case.{is_solid};
 ghost use Rattle.lbm_model.specs.Flow.{fluid_first, wall_first, first_in, first};
@@ -21,7 +23,7 @@ fn fluid_first<V: VelocitySet>(case: &Case, cell: u32) -> Pops
     requires fluid { is_solid case.now cell ≡ false }
     ensures first { (i : ℕ) → i < V.stencil.directions →
         populations result.f i ≡ fluid_first case.now cell i }
-    ensures small { (i : ℕ) → unsigned_abs (populations result.f i) < 2 ^ 28 }
+    ensures small { (i : ℕ) → unsigned_abs (populations result.f i) < greatest_population }
 {
     let j = case.momentum();
     first_pops::<V>(i64::from(case.density(cell)), j)
@@ -33,7 +35,7 @@ fn wall_first<V: VelocitySet>(case: &Case, cell: u32, i: usize) -> i64
     requires cell { cell < cells case.now.torus }
     requires known { i < V.stencil.directions }
     ensures first { result ≡ wall_first case.now cell i }
-    ensures small { unsigned_abs result < 2 ^ 28 }
+    ensures small { unsigned_abs result < greatest_population }
 {
     let source = case.space().back::<V>(cell, i);
     if case.is_solid(source) {
@@ -49,7 +51,7 @@ fn wall_pops<V: VelocitySet>(case: &Case, cell: u32) -> Pops
     requires cell { cell < cells case.now.torus }
     ensures first { (i : ℕ) → i < V.stencil.directions →
         populations result.f i ≡ wall_first case.now cell i }
-    ensures small { (i : ℕ) → unsigned_abs (populations result.f i) < 2 ^ 28 }
+    ensures small { (i : ℕ) → unsigned_abs (populations result.f i) < greatest_population }
 {
     let mut pops = Pops::zero();
     for i in 0..V::Q {
@@ -64,7 +66,7 @@ fn cell_pops<V: VelocitySet>(case: &Case, cell: u32) -> Pops
     requires cell { cell < cells case.now.torus }
     ensures first { (i : ℕ) → i < V.stencil.directions →
         populations result.f i ≡ first_in case.now cell i }
-    ensures small { (i : ℕ) → unsigned_abs (populations result.f i) < 2 ^ 28 }
+    ensures small { (i : ℕ) → unsigned_abs (populations result.f i) < greatest_population }
 {
     if case.is_solid(cell) {
         wall_pops::<V>(case, cell)
@@ -75,8 +77,8 @@ fn cell_pops<V: VelocitySet>(case: &Case, cell: u32) -> Pops
 
 // Adds the first `q` of the populations at the end.
 fn push_cell(pops: &mut Vec<i32>, f: &Pops, q: usize) -> Result<(), Memory>
-    requires few { q ≤ 27 }
-    requires small { (i : ℕ) → unsigned_abs (populations f.now.f i) < 2 ^ 28 }
+    requires few { q ≤ most_directions }
+    requires small { (i : ℕ) → unsigned_abs (populations f.now.f i) < greatest_population }
     ensures { OnOk result (pops.new.items ≡ pops.old.items ++ list_below q (populations f.now.f)) }
 {
     for i in 0..q {

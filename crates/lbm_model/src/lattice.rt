@@ -1,6 +1,6 @@
 //! What can be read of a lattice.
 
-ghost use Rattle.std.specs.Prelude.{◌≡◌, ◌<◌, ℕ, Bool, IsNone, FitsSigned};
+ghost use Rattle.std.specs.Prelude.{◌≡◌, ◌<◌, ℕ, Bool, IsNone, IfOk, FitsSigned};
 ghost use Rattle.std.specs.Int.{w32};
 ghost use Rattle.lbm_space.specs.Torus.{cells};
 ghost use Rattle.lbm_model.specs.State.{population};
@@ -9,6 +9,9 @@ ghost use Rattle.lbm_model.specs.Flow.{IsStateOf, out_of_limits};
 ghost use Rattle.lbm_model.specs.Standing.{Standing};
 
 use crate::case::Case;
+use crate::state::State;
+use lbm_space::Memory;
+use std::alloc::Global;
 
 /// A lattice that stands for the state of a case at a time. A step that finds a cell out of limits spends it: it stands for
 /// no state from then on.
@@ -43,6 +46,20 @@ pub trait Lattice {
         requires direction { dir < (standing self.now).case.stencil.directions }
         ensures value { result ≡ population (standing self.now).state cell dir }
         ensures fits { FitsSigned w32 result };
+
+    /// The state that it stands for. Want of memory is the only refusal.
+    fn state(&self, alloc: Global) -> Result<State, Memory>
+        requires { IsNone (standing self.now).spent }
+        ensures { IfOk result (λ state. state ≡ (standing self.now).state) }
+    {
+        let cells = self.case().space().cells();
+        let q = self.case().set().directions();
+        let mut pops = Vec::with_capacity(alloc, cells as usize * q as usize)?;
+        for k in 0..cells * q {
+            pops.push(self.get(k / q, k % q) as i32)?;
+        }
+        Ok(State::new(q, pops))
+    }
 
     /// The least cell out of limits, or `None` where all are in limits.
     fn check(&self) -> Option<u32>

@@ -3,6 +3,7 @@
 
 pub mod case;
 pub mod cell;
+pub mod constants;
 pub mod first;
 pub mod gate;
 pub mod lattice;
@@ -13,8 +14,9 @@ pub mod sets;
 pub mod state;
 pub mod walls;
 
-pub use case::Case;
+pub use case::{Case, MovingWalls};
 pub use cell::{post, sound};
+pub use constants::MOST_STEPS;
 pub use first::first_state;
 pub use gate::{Gate, NoGate};
 pub use lattice::Lattice;

@@ -2,6 +2,7 @@
 
 ghost use Rattle.std.specs.Prelude.{◌≡◌, ◌<◌, ◌≤◌, ◌^◌, true, unsigned_abs};
 ghost use Rattle.lbm_space.specs.Torus.{cells};
+ghost use Rattle.lbm_model.specs.Limits.{gain_bound};
 ghost use Rattle.lbm_model.specs.Case.{is_moving, gain, cell_gain, all_gain};
 
 use crate::case::Case;
@@ -15,7 +16,7 @@ pub fn moving_gain<V: VelocitySet>(case: &Case, cell: u32, dir: u32) -> i64
     requires direction { dir < V.stencil.directions }
     requires moves { is_moving case.now cell ≡ true }
     ensures value { result ≡ gain case.now cell dir }
-    ensures size { unsigned_abs result < 2 ^ 15 }
+    ensures size { unsigned_abs result < gain_bound }
 {
     let dir = dir as usize;
     let target = case.space().back::<V>(cell, V::opp(dir));
@@ -34,7 +35,7 @@ pub fn gain<V: VelocitySet>(case: &Case, cell: u32, dir: u32) -> i64
     requires cell { cell < cells case.now.torus }
     requires direction { dir < V.stencil.directions }
     ensures value { result ≡ gain case.now cell dir }
-    ensures size { unsigned_abs result < 2 ^ 15 }
+    ensures size { unsigned_abs result < gain_bound }
 {
     if case.is_moving(cell) {
         moving_gain::<V>(case, cell, dir)

@@ -1,7 +1,8 @@
 // The gains of moving walls.
 
-ghost use Rattle.std.specs.Prelude.{◌≡◌, ◌<◌, ◌≤◌, ◌+◌, ◌^◌, ℕ, ◌+ℤ◌, true, false, unsigned_abs, slice_index_or};
+ghost use Rattle.std.specs.Prelude.{◌≡◌, ◌<◌, ◌≤◌, ◌+◌, ℕ, ◌+ℤ◌, true, false, unsigned_abs, slice_index_or};
 ghost use Rattle.lbm_space.specs.Torus.{cells};
+ghost use Rattle.lbm_cell.specs.Limits.{greatest_population};
 ghost use Rattle.lbm_lanes.specs.Lanes.{entry, has};
 ghost use Rattle.lbm_model.specs.Case.{is_solid, is_moving, gain};
 
@@ -30,7 +31,7 @@ fn with_gain<V: VelocitySet>(case: &Case, cell: u32, dir: u32, moves: bool, sent
     requires cell { cell < cells case.now.torus }
     requires direction { dir < V.stencil.directions }
     requires moves { moves ≡ is_moving case.now cell }
-    requires small { is_moving case.now cell ≡ true → unsigned_abs sent ≤ 2 ^ 28 }
+    requires small { is_moving case.now cell ≡ true → unsigned_abs sent ≤ greatest_population }
     ensures { result ≡ sent +ℤ gain case.now cell dir }
 {
     if moves {
@@ -54,7 +55,7 @@ fn gained<V: VelocitySet>(
     requires cells { cell + n ≤ cells case.now.torus }
     requires direction { dir < V.stencil.directions }
     requires moving { (j : ℕ) → j < n → slice_index_or moving.now j false ≡ is_moving case.now (cell + j) }
-    requires small { (j : ℕ) → j < n → is_moving case.now (cell + j) ≡ true → unsigned_abs (entry sent j) ≤ 2 ^ 28 }
+    requires small { (j : ℕ) → j < n → is_moving case.now (cell + j) ≡ true → unsigned_abs (entry sent j) ≤ greatest_population }
     ensures { (j : ℕ) → j < n → entry result j ≡ entry sent j +ℤ gain case.now (cell + j) dir }
 {
     // Its type keeps the number of cells small.
@@ -73,7 +74,7 @@ fn gained<V: VelocitySet>(
 fn add_each<V: VelocitySet, R: Rows<V>>(case: &Case, cell: u32, rows: &mut R)
     requires set { case.now.stencil ≡ V.stencil }
     requires cells { cell + R.count rows.old ≤ cells case.now.torus }
-    requires small { (i j : ℕ) → i < V.stencil.directions → j < R.count rows.old → is_moving case.now (cell + j) ≡ true → unsigned_abs (R.sent rows.old i j) ≤ 2 ^ 28 }
+    requires small { (i j : ℕ) → i < V.stencil.directions → j < R.count rows.old → is_moving case.now (cell + j) ≡ true → unsigned_abs (R.sent rows.old i j) ≤ greatest_population }
     ensures sent { (i j : ℕ) → i < V.stencil.directions → j < R.count rows.old → R.sent rows.new i j ≡ R.sent rows.old i j +ℤ gain case.now (cell + j) i }
     ensures count { R.count rows.new ≡ R.count rows.old }
     ensures kept { R.kept rows.old rows.new }
@@ -93,7 +94,7 @@ pub(crate) fn add_gains<V: VelocitySet, R: Rows<V>>(case: &Case, cell: u32, soli
     requires set { case.now.stencil ≡ V.stencil }
     requires cells { cell + R.count rows.old ≤ cells case.now.torus }
     requires solid { (j : ℕ) → j < R.count rows.old → has solid j ≡ is_solid case.now (cell + j) }
-    requires small { (i j : ℕ) → i < V.stencil.directions → j < R.count rows.old → is_moving case.now (cell + j) ≡ true → unsigned_abs (R.sent rows.old i j) ≤ 2 ^ 28 }
+    requires small { (i j : ℕ) → i < V.stencil.directions → j < R.count rows.old → is_moving case.now (cell + j) ≡ true → unsigned_abs (R.sent rows.old i j) ≤ greatest_population }
     ensures sent { (i j : ℕ) → i < V.stencil.directions → j < R.count rows.old → R.sent rows.new i j ≡ R.sent rows.old i j +ℤ gain case.now (cell + j) i }
     ensures count { R.count rows.new ≡ R.count rows.old }
     ensures kept { R.kept rows.old rows.new }

@@ -7,6 +7,7 @@ use Rattle.std.specs.Cmp.Lexicographic.{pointwise}
 use Rattle.std.proofs.Common.{refl, arith, inl, inr, subst, sym}
 use Rattle.std.proofs.lemmas.Bool.{and_parts, cases_lt, ltb-true, leb-true, eqb-true, or_cases, not-true, both_ways}
 use Rattle.std.proofs.lemmas.Bool.Decides.{Decides-int_eq}
+use Rattle.lbm_space.specs.Limits.{most_directions, greatest_denominator}
 use Rattle.lbm_space.specs.Sum.{sum_below, all_below}
 use Rattle.lbm_space.specs.Stencil.{Stencil, part, velocity, weight, opposite, moving_axes, IsVelocitySet}
 use Rattle.lbm_space.specs.Tables.{d2q9, d3q19}
@@ -46,7 +47,7 @@ pub record Passes (v : Stencil) : Type 0 where
   pub three_parts : all_pass v.directions (λ i. length (velocity v i) == 3) ≡ true
   -- 1
   pub some_direction : nat_lt 0 v.directions ≡ true
-  pub few_directions : nat_le v.directions 27 ≡ true
+  pub few_directions : nat_le v.directions most_directions ≡ true
   pub plane_or_space : (v.dimension == 2 || v.dimension == 3) ≡ true
   -- 2
   pub unit_parts : all_pass v.directions (λ i. all_pass 3 (λ a. nat_le (unsigned_abs (part (velocity v i) a)) 1)) ≡ true
@@ -67,7 +68,7 @@ pub record Passes (v : Stencil) : Type 0 where
   -- 7
   pub isotropic : all_pass v.dimension (λ a. all_pass v.dimension (λ b. int_eq (pos 3 *ℤ sum_below v.directions (λ i. weight v i *ℤ part (velocity v i) a *ℤ part (velocity v i) b)) (if a == b then v.denominator else pos 0))) ≡ true
   -- 8
-  pub small_denominator : int_le v.denominator (pos 216) ≡ true
+  pub small_denominator : int_le v.denominator (pos greatest_denominator) ≡ true
   pub light : all_pass v.directions (λ i. i == 0 || int_le (weight v i *ℤ pos (2 + 6 * moving_axes (velocity v i) + 9 * moving_axes (velocity v i) * moving_axes (velocity v i))) (pos 2 *ℤ v.denominator)) ≡ true
 
 -- a set that passes the tests is a velocity set

@@ -1,3 +1,4 @@
+pub mod Limits
 pub mod Sum
 pub mod Stencil
 pub mod Tables

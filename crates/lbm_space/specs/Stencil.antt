@@ -1,5 +1,6 @@
 use Rattle.std.specs.Prelude.{◌≡◌, ◌⊎◌, ℕ, ◌+◌, ◌*◌, ◌<◌, ◌≤◌, ◌==◌, List, [], length, ℤ, pos, ◌+ℤ◌, ◌*ℤ◌, ◌≤ℤ◌, ◌<ℤ◌, neg_ℤ, unsigned_abs, slice_index, slice_index_or, if◌then◌else◌}
 use Rattle.lbm_space.specs.Sum.{sum_below}
+use Rattle.lbm_space.specs.Limits.{most_directions, greatest_denominator}
 
 -- a velocity set as data: one entry of each list for each direction
 pub record Stencil : Type 0 where
@@ -41,7 +42,7 @@ pub record IsVelocitySet (v : Stencil) : Type 0 where
   pub three_parts : (i : ℕ) → i < v.directions → length (velocity v i) ≡ 3
   -- 1. There are 1 to 27 directions, in two or three dimensions.
   pub some_direction : 0 < v.directions
-  pub few_directions : v.directions ≤ 27
+  pub few_directions : v.directions ≤ most_directions
   pub plane_or_space : (v.dimension ≡ 2) ⊎ (v.dimension ≡ 3)
   -- 2. Each part of a velocity is -1, 0 or 1, and the parts past the dimension are 0.
   pub unit_parts : (i a : ℕ) → i < v.directions → a < 3 → unsigned_abs (part (velocity v i) a) ≤ 1
@@ -62,5 +63,5 @@ pub record IsVelocitySet (v : Stencil) : Type 0 where
   -- 7. The sum of the products of parts a and b of a velocity, each times its weight, is a third of the denominator where a is b, and 0 otherwise.
   pub isotropic : (a b : ℕ) → a < v.dimension → b < v.dimension → pos 3 *ℤ sum_below v.directions (λ i. weight v i *ℤ part (velocity v i) a *ℤ part (velocity v i) b) ≡ (if a == b then v.denominator else pos 0)
   -- 8. The denominator is at most 216, and a moving direction that has n parts other than 0 has a weight of at most 2 den / (2 + 6 n + 9 n^2).
-  pub small_denominator : v.denominator ≤ℤ pos 216
+  pub small_denominator : v.denominator ≤ℤ pos greatest_denominator
   pub light : (i : ℕ) → 0 < i → i < v.directions → (let n = moving_axes (velocity v i) in (weight v i *ℤ pos (2 + 6 * n + 9 * n * n)) ≤ℤ (pos 2 *ℤ v.denominator))

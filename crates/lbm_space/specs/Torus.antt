@@ -1,5 +1,6 @@
 use Rattle.std.specs.Prelude.{◌≡◌, ◌⊎◌, ℕ, ◌+◌, ◌*◌, ◌/◌, ◌%◌, ◌<◌, ◌≤◌, List, ℤ, pos, ◌-ℤ◌, unsigned_abs, nat_eq, if◌then◌else◌}
 use Rattle.std.specs.Int.{int_rem_euclid}
+use Rattle.lbm_space.specs.Limits.{greatest_side, most_places}
 use Rattle.lbm_space.specs.Stencil.{part}
 
 -- a box of cells in which every axis is periodic
@@ -54,8 +55,8 @@ pub record IsSpace (t : Torus) : Type 0 where
   pub some_x : 0 < t.nx
   pub some_y : 0 < t.ny
   pub some_z : 0 < t.nz
-  pub few_x : t.nx ≤ 4096
-  pub few_y : t.ny ≤ 4096
-  pub few_z : t.nz ≤ 4096
+  pub few_x : t.nx ≤ greatest_side
+  pub few_y : t.ny ≤ greatest_side
+  pub few_z : t.nz ≤ greatest_side
   pub flat : t.dimension ≡ 2 → t.nz ≡ 1
-  pub fits : padded t ≤ 4194304
+  pub fits : padded t ≤ most_places

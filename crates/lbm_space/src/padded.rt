@@ -3,6 +3,7 @@
 
 ghost use Rattle.std.specs.Prelude.{◌≡◌, ℕ, ◌+◌, ◌-◌, ◌<◌, ◌≤◌, ◌%◌, ◌/◌, ◌^◌, ℤ, pos, ◌+ℤ◌, ◌-ℤ◌, ◌*ℤ◌, ◌≤ℤ◌, unsigned_abs, ◌*◌};
 ghost use Rattle.std.specs.Int.{int_max};
+ghost use Rattle.lbm_space.specs.Limits.{greatest_side, most_places};
 ghost use Rattle.lbm_space.specs.Stencil.{Stencil, IsVelocitySet, velocity, part};
 ghost use Rattle.lbm_space.specs.Torus.{Torus, IsSpace, cells, rows, padded, back, modulo, cell_number};
 ghost use Rattle.lbm_space.specs.Padded.{padded_box, pads_below, padded_index, offset, reach, wrap, place_before, row_start};
@@ -120,7 +121,7 @@ impl Space {
 // How far two places are apart whose coordinates differ by c, where the cells' sides are nx and ny.
 fn distance(c: [i64; 3], nx: u32, ny: u32) -> i64
     requires unit { (a : ℕ) → a < 3 → unsigned_abs (part c a) ≤ 1 }
-    requires sides { (nx ≤ 4096) × (ny ≤ 4096) }
+    requires sides { (nx ≤ greatest_side) × (ny ≤ greatest_side) }
     ensures { result ≡ (part c 0 +ℤ pos (nx + 2) *ℤ (part c 1 +ℤ pos (ny + 2) *ℤ part c 2)) }
 {
     let lines = apart(c[1], ny, c[2]);
@@ -130,7 +131,7 @@ fn distance(c: [i64; 3], nx: u32, ny: u32) -> i64
 // How far two places are apart of which one lies `lines` padded lines and `step` places farther.
 fn apart(step: i64, side: u32, lines: i64) -> i64
     requires step { unsigned_abs step ≤ 1 }
-    requires side { side ≤ 4096 }
+    requires side { side ≤ greatest_side }
     requires lines { unsigned_abs lines ≤ 4099 }
     ensures value { result ≡ (step +ℤ pos (side + 2) *ℤ lines) }
     ensures size { unsigned_abs result ≤ 1 + (side + 2) * unsigned_abs lines }
@@ -141,9 +142,9 @@ fn apart(step: i64, side: u32, lines: i64) -> i64
 
 // The coordinate on a ring of `side` places of the padded coordinate `place`, where `pads` places lie before the ring.
 fn wrapped(place: u32, pads: u32, side: u32) -> u32
-    requires side { (0 < side) × (side ≤ 4096) }
+    requires side { (0 < side) × (side ≤ greatest_side) }
     requires pads { pads ≤ 1 }
-    requires place { place ≤ 4194304 }
+    requires place { place ≤ most_places }
     ensures { result ≡ modulo (pos place -ℤ pos pads) side }
 {
     (place + side - pads) % side

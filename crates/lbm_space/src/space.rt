@@ -4,6 +4,7 @@ ghost use Rattle.std.specs.Prelude.{◌≡◌, ◌⊎◌, ◌↔◌, ◌<◌, �
 ghost use Rattle.lbm_space.specs.Stencil.{velocity, part};
 ghost use Rattle.lbm_space.specs.Torus.{Torus, IsSpace, torus, cells, rows, cell_number, x_of, y_of, z_of, back, modulo, padded};
 
+use crate::constants::{GREATEST_SIDE, MOST_PLACES};
 use crate::set::VelocitySet;
 use std::marker::Model;
 
@@ -33,7 +34,7 @@ impl Space {
         requires { (dim ≡ 2) ⊎ (dim ≡ 3) }
         ensures { let t = torus dim nx ny nz in SomeIff result (IsSpace t) t }
     {
-        let side = 1..=4096;
+        let side = 1..=GREATEST_SIDE;
         if !side.contains(&nx) || !side.contains(&ny) || !side.contains(&nz) {
             return None;
         }
@@ -41,7 +42,7 @@ impl Space {
             return None;
         }
         let layers = if dim == 2 { 1 } else { u64::from(nz) + 2 };
-        if (u64::from(nx) + 2) * (u64::from(ny) + 2) * layers > 4_194_304 {
+        if (u64::from(nx) + 2) * (u64::from(ny) + 2) * layers > u64::from(MOST_PLACES) {
             return None;
         }
         Some(Space { dim, nx, ny, nz })

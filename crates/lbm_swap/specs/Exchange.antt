@@ -1,5 +1,6 @@
 -- The exchange of what cells have sent, which stands in their own slots of the opposite directions.
 use Rattle.std.specs.Prelude.{◌≡◌, ℕ, ◌<◌, ◌≤◌, nat_lt, List, ℤ, length, slice_index, if◌then◌else◌}
+use Rattle.lbm_space.specs.Limits.{most_directions}
 use Rattle.lbm_space.specs.Stencil.{Stencil, velocity, opposite}
 use Rattle.lbm_space.specs.Torus.{Torus, IsSpace, cells}
 use Rattle.lbm_space.specs.Padded.{padded_index, place_ahead}
@@ -18,7 +19,7 @@ pub record IsPaired (q : ℕ) (partners : List ℕ) : Type 0 where
 -- the ranges of a slab of these rows may exchange
 pub record IsReady (t : Torus) (partners : List ℕ) (rows : ℕ × ℕ) (ranges : Ranges) : Type 0 where
   pub space : IsSpace t
-  pub few : length partners ≤ 27
+  pub few : length partners ≤ most_directions
   pub paired : IsPaired (length partners) partners
   pub slab : IsSlab t (length partners) rows ranges
 

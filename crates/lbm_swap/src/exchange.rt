@@ -1,12 +1,12 @@
 //! The exchange between the ranges of opposite directions.
 
 ghost use Rattle.std.specs.Prelude.{◌≡◌, ◌≢◌, ◌⊎◌, ◌+◌, ◌*◌, ◌<◌, ◌≤◌, ℕ, List, [], None, length, slice_index};
+ghost use Rattle.lbm_space.specs.Limits.{most_directions};
 ghost use Rattle.lbm_cell.specs.Rows.{entry};
 ghost use Rattle.lbm_sweep.specs.Blocks.{IsSized};
 ghost use Rattle.lbm_swap.specs.Exchange.{IsPaired, IsReady, IsExchangedIn};
 
-use lbm_arrays::{Loan, Pass};
-use lbm_model::Case;
+use lbm_arrays::{Inputs, Loan, Pass};
 use lbm_space::Space;
 use lbm_sweep::Directions;
 
@@ -23,7 +23,7 @@ impl Pass for Exchange {
 
     ghost does = { λ w case read places piece rows old answer new. (answer ≡ None) × IsExchangedIn w.space (length w.partners.items) w.partners.items rows (rows.0 * w.space.nx) (rows.1 * w.space.nx) old new };
 
-    fn run(&self, _: &Case, _: &[i64], _: &[u32], _: u32, loan: &mut Loan<'_>) -> Option<u32> {
+    fn run(&self, _: &Inputs<'_>, _: u32, loan: &mut Loan<'_>) -> Option<u32> {
         let pairs = Pairs {
             space: &self.space,
             partners: self.partners.as_slice(),
@@ -76,7 +76,7 @@ fn exchange_row(work: &Pairs<'_>, loan: &mut Loan<'_>, row: u32)
 fn exchange_run(loan: &mut Loan<'_>, partners: &[usize], at: u32, n: u32)
     requires some { 1 ≤ n }
     requires few_places { n ≤ 8 }
-    requires few { length partners.now ≤ 27 }
+    requires few { length partners.now ≤ most_directions }
     requires paired { IsPaired (length partners.now) partners.now }
     requires sized { (len : ℕ) × IsSized (length partners.now) len loan.old.ranges × (at + n ≤ len) }
     ensures exchanged { (k j : ℕ) → k < length partners.now → j < n → entry loan.new.ranges k (at + j) ≡ entry loan.old.ranges (slice_index partners.now k) (at + j) }

@@ -10,7 +10,7 @@ ghost use Rattle.lbm_lattice.specs.InPlace.{own_layout, turned_layout};
 
 use crate::exchange::Exchange;
 use crate::padding::{load_pads_ahead, store_pads_ahead};
-use lbm_arrays::{Forks, Region, Step, fork_by, shifts};
+use lbm_arrays::{Forks, Inputs, Region, Step, fork_by, shifts};
 use lbm_lattice::BASE;
 use lbm_model::Case;
 use lbm_space::{Cutting, VelocitySet};
@@ -38,7 +38,12 @@ pub(crate) fn pass_on<V: VelocitySet, A: Allocator, C: Forks<Exchange>>(
     let partners = opposite_directions::<V>();
     let moved = shifts::<V>(&space, BASE, Step::Exchange);
     let pass = Exchange { space, partners };
+    let inputs = Inputs {
+        case,
+        read: &[],
+        places: &[],
+    };
     // No gate stands before it: each slab's work has passed one in the first pass.
-    let _ = fork_by(crew, region, pass, false, case, &[], &[], moved, cut);
+    let _ = fork_by(crew, region, pass, false, &inputs, moved, cut);
     store_pads_ahead::<V, A>(region, BASE);
 }

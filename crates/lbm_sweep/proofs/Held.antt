@@ -1,5 +1,5 @@
 -- Rows of cells that stand in the ranges of a loan.
-use Rattle.std.proofs.Common.{◌≡◌, ◌≢◌, ℕ, ◌+◌, ◌-◌, ◌<◌, ◌≤◌, ℤ, pos, List, length, take, slice_index, sym, ◌∙◌, arith}
+use Rattle.std.proofs.Common.{◌≡◌, ◌≢◌, ℕ, ◌+◌, ◌-◌, ◌<◌, ◌≤◌, ℤ, pos, List, length, take, slice_index, sym, subst, ◌∙◌, arith}
 use Rattle.std.specs.Prelude.{slice_index_or}
 use Rattle.lbm_space.specs.Stencil.{Stencil, IsVelocitySet, opposite}
 use Rattle.lbm_space.specs.Torus.{Torus, IsSpace}
@@ -53,6 +53,30 @@ module _ (q at n : ℕ) (lent : Lent) (is : IsWithin q lent.ranges at n) where
           fits = rw wide is.fits;
         };
       }
+
+  -- so it is after a store of a direction to the slots of its array
+  pub stored_in : (arrays slots : List ℕ) (table : IsTable q arrays) → BeginAt q lent.place arrays slots → (dir : ℕ) → (known : dir < q) → (lanes : List ℤ) (new : Lent) → n ≤ length lanes → new.rows ≡ lent.rows → new.place ≡ lent.place
+      → ((k : ℕ) → IsRun lent (slice_index slots dir) k at n → new.ranges ≡ with_run lent.ranges k at (take n lanes)) → IsPut (slice_index arrays dir) lanes new
+  stored_in arrays slots table begins dir known lanes new long rows place ranges =
+      let k : ℕ = slice_index arrays dir in put_in k lanes new (table.known dir known) long rows place (ranges k (run_in arrays slots table begins dir known))
+
+-- cells' places are places as before where nothing has changed but there
+pub within_but : (q at n : ℕ) (old new : Lent) → IsSameBut at (at + n) old new → IsWithin q old.ranges at n → IsWithin q new.ranges at n
+within_but q at n old new but is = record {
+  some = is.some;
+  few = is.few;
+  directions = is.directions;
+  sized = rw but.wide (but.sized q (width old.ranges) is.sized);
+  inner = is.inner;
+  fits = rw but.wide is.fits;
+}
+
+-- what holds of a loan that a holder had holds of the loan that comes back
+pub but_as : (from to : ℕ) (old new last : Lent) → last ≡ new → IsSameBut from to old new → IsSameBut from to old last
+but_as from to old new last same but = subst (IsSameBut from to old) (sym same) but
+
+pub lent_as : (old new last : Lent) → last ≡ new → new ≡ old → last ≡ old
+lent_as old new last same is = same ∙ is
 
 -- at first a holder stands at the first cell of its slab
 pub within_slab : (t : Torus) (q : ℕ) (rows : ℕ × ℕ) (ranges : List (List ℤ)) → IsSpace t → 0 < q → q ≤ 27 → IsSlab t q rows ranges → IsWithin q ranges 1 1

@@ -11,3 +11,4 @@ pub mod Placing
 pub mod Regions
 pub mod Steps
 pub mod Written
+pub mod CellRows

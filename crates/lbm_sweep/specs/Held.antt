@@ -1,6 +1,7 @@
 -- Rows of cells that stand in the ranges of a loan.
 --     at, n     the place of the first cell in each range, and how many cells there are
 use Rattle.std.specs.Prelude.{◌≡◌, ◌⊎◌, ℕ, ◌+◌, ◌<◌, ◌≤◌, ℤ, List, [], length, slice_index, slice_index_or}
+use Rattle.lbm_space.specs.Limits.{most_directions}
 use Rattle.lbm_space.specs.Stencil.{Stencil, opposite}
 use Rattle.lbm_arrays.specs.Lent.{Lent, Place, first_slot}
 use Rattle.lbm_cell.specs.Rows.{entry}
@@ -14,7 +15,7 @@ width ranges = length (slice_index_or ranges 0 [])
 pub record IsWithin (q : ℕ) (ranges : List (List ℤ)) (at n : ℕ) : Type 0 where
   pub some : 1 ≤ n
   pub few : n ≤ 8
-  pub directions : q ≤ 27
+  pub directions : q ≤ most_directions
   pub sized : IsSized q (width ranges) ranges
   pub inner : 0 < at
   pub fits : at + n < width ranges

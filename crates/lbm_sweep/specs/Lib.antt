@@ -6,3 +6,4 @@ pub mod Slabs
 pub mod Regions
 pub mod Steps
 pub mod Lattices
+pub mod CellRows

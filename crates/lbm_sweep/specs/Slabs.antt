@@ -2,6 +2,7 @@
 --     t, q      the space, and how many populations a cell has
 --     before    the populations of a cell, from what the ranges of a slab of some rows hold
 use Rattle.std.specs.Prelude.{◌≡◌, ℕ, ◌-◌, ◌<◌, ◌≤◌, Bool, List, ℤ, slice_index, Option}
+use Rattle.lbm_space.specs.Limits.{most_directions}
 use Rattle.lbm_space.specs.Torus.{Torus, IsSpace, cells, rows as row_count}
 use Rattle.lbm_space.specs.Padded.{row_start}
 use Rattle.lbm_sweep.specs.Blocks.{slots, IsSized, IsTable}
@@ -16,7 +17,7 @@ pub record IsMatched (t : Torus) (q : ℕ) (rule_cells : ℕ) (source_space : To
   pub space : IsSpace t
   pub cells : rule_cells ≡ cells t
   pub same_space : source_space ≡ t
-  pub few : q ≤ 27
+  pub few : q ≤ most_directions
   pub table : IsTable q writes
 
 -- the ranges of a slab of these rows

@@ -3,7 +3,6 @@
 ghost use Rattle.std.specs.Prelude.{◌≡◌, ◌+◌, ◌<◌, ◌≤◌, ℕ, pos, length, slice_index_or};
 
 /// The `n` numbers, at most 8, from number `first` on. The other lanes are 0.
-#[inline(always)]
 pub fn lanes_at(numbers: &[i64], first: usize, n: u32) -> [i64; 8]
     requires few { n ≤ 8 }
     requires inside { first + n ≤ length numbers.now }
@@ -15,23 +14,7 @@ pub fn lanes_at(numbers: &[i64], first: usize, n: u32) -> [i64; 8]
 }
 
 // The numbers of a run of at most eight. The other lanes are 0.
-#[inline(always)]
 fn lanes_of(run: &[i64]) -> [i64; 8]
-    requires { length run.now ≤ 8 }
-    ensures numbers { (j : ℕ) → j < length run.now → slice_index_or result j (pos 0) ≡ slice_index_or run.now j (pos 0) }
-    ensures past { (j : ℕ) → length run.now ≤ j → slice_index_or result j (pos 0) ≡ pos 0 }
-{
-    if run.len() == 8 {
-        return whole_run(run);
-    }
-    short_run(run)
-}
-
-// The same where they are fewer than eight, as at the end of a row. It stands apart so that runs of eight fold into the
-// kernel.
-#[cold]
-#[inline(never)]
-fn short_run(run: &[i64]) -> [i64; 8]
     requires { length run.now ≤ 8 }
     ensures numbers { (j : ℕ) → j < length run.now → slice_index_or result j (pos 0) ≡ slice_index_or run.now j (pos 0) }
     ensures past { (j : ℕ) → length run.now ≤ j → slice_index_or result j (pos 0) ≡ pos 0 }
@@ -43,9 +26,19 @@ fn short_run(run: &[i64]) -> [i64; 8]
     lanes
 }
 
+/// The eight numbers from number `first` on.
+#[inline(always)]
+pub fn eight_at(numbers: &[i64], first: usize) -> [i64; 8]
+    requires { first + 8 ≤ length numbers.now }
+    ensures { (j : ℕ) → j < 8 → slice_index_or result j (pos 0) ≡ slice_index_or numbers.now (first + j) (pos 0) }
+{
+    let _ = numbers.len(); // It fits a machine word.
+    eight_of(&numbers[first..first + 8])
+}
+
 // The numbers of a run of eight.
 #[inline(always)]
-fn whole_run(run: &[i64]) -> [i64; 8]
+fn eight_of(run: &[i64]) -> [i64; 8]
     requires { length run.now ≡ 8 }
     ensures { (j : ℕ) → j < 8 → slice_index_or result j (pos 0) ≡ slice_index_or run.now j (pos 0) }
 {

@@ -5,6 +5,7 @@
 //! populations are taken, into which arrays they are put, and how the ranges are moved.
 #![tactic(auto)]
 
+mod cell_row;
 mod in_place;
 mod lanes;
 mod lattice;
@@ -19,8 +20,8 @@ mod tables;
 mod taking;
 
 pub use in_place::InPlace;
-pub use lanes::lanes_at;
-pub use lattice::{least_out_of_limits, place_state, population_at};
+pub use lanes::{eight_at, lanes_at};
+pub use lattice::{least_out_of_limits, place_state, population_at, read_state};
 pub use padding::{load_all_pads, store_all_pads};
 pub use rows::collide_taking;
 pub use slab::Collision;

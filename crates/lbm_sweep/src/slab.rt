@@ -7,8 +7,7 @@ ghost use Rattle.lbm_model.specs.Small.{size_limit};
 ghost use Rattle.lbm_sweep.specs.Slabs.{AreSmall, InColumns, IsMatched, IsSlab};
 
 use crate::{Directions, SlabCall, Source};
-use lbm_arrays::{Loan, Pass};
-use lbm_model::Case;
+use lbm_arrays::{Inputs, Loan, Pass};
 use lbm_rule::CellRule;
 use lbm_space::{Space, VelocitySet};
 use std::marker::PhantomData;
@@ -29,18 +28,11 @@ impl<V: VelocitySet, S: Source<V>> Pass for Collision<V, S> {
 
     ghost does = { λ w case read places piece rows old answer new. InColumns (λ x f. is_sound case x f) (λ x f i. post case x f i) V.stencil.directions (S.before w.source read places) w.writes.items w.space rows (rows.0 * w.space.nx) (rows.1 * w.space.nx) old new answer };
 
-    fn run(
-        &self,
-        case: &Case,
-        read: &[i64],
-        places: &[u32],
-        _piece: u32,
-        loan: &mut Loan<'_>,
-    ) -> Option<u32> {
-        let rule = CellRule::<V>::of(case);
+    fn run(&self, inputs: &Inputs<'_>, _piece: u32, loan: &mut Loan<'_>) -> Option<u32> {
+        let rule = CellRule::<V>::of(inputs.case);
         let call = SlabCall {
-            read,
-            places,
+            read: inputs.read,
+            places: inputs.places,
             space: &self.space,
             writes: self.writes.as_slice(),
         };

@@ -1,6 +1,7 @@
 //! The slots at which ranges begin.
 
 ghost use Rattle.std.specs.Prelude.{◌≡◌, ◌<◌, ◌≤◌, ℕ, length, slice_index};
+ghost use Rattle.lbm_space.specs.Limits.{most_directions};
 ghost use Rattle.lbm_sweep.specs.Held.{BeginAt};
 
 use lbm_arrays::Loan;
@@ -10,9 +11,9 @@ pub type Slots = [usize; 27];
 
 /// For each direction the slot at which the range of its array begins.
 pub fn first_slots(loan: &Loan<'_>, arrays: &[usize]) -> Slots
-    requires few { length arrays.now ≤ 27 }
+    requires few { length arrays.now ≤ most_directions }
     requires known { (i : ℕ) → i < length arrays.now → slice_index arrays.now i < length loan.now.ranges }
-    requires count { length loan.now.ranges ≤ 27 }
+    requires count { length loan.now.ranges ≤ most_directions }
     ensures { BeginAt (length arrays.now) loan.now.place arrays.now result }
 {
     let mut slots = [0; 27];

@@ -13,8 +13,7 @@ ghost use Rattle.lbm_sweep.specs.Slabs.{IsMatched};
 ghost use Rattle.lbm_sweep.specs.Regions.{range_slot, HasSlot, InEachSlab};
 
 use crate::{Collision, Source};
-use lbm_arrays::{Forks, Region, Shifts, fork_by};
-use lbm_model::Case;
+use lbm_arrays::{Forks, Inputs, Region, Shifts, fork_by};
 use lbm_space::{Cutting, VelocitySet};
 use std::alloc::Allocator;
 
@@ -25,29 +24,27 @@ pub fn collide<A: Allocator, V: VelocitySet, S: Source<V>, C: Forks<Collision<V,
     crew: &C,
     region: &mut Region<A>,
     pass: Collision<V, S>,
-    case: &Case,
-    read: &[i64],
-    places: &[u32],
+    inputs: &Inputs<'_>,
     shifts: Shifts,
     cut: &Cutting,
 ) -> Option<u32>
     requires able { C.forks crew.now }
-    requires set { case.now.stencil ≡ V.stencil }
+    requires set { inputs.now.case.now.stencil ≡ V.stencil }
     requires space { pass.space ≡ region.old.space }
-    requires matched { IsMatched pass.space V.stencil.directions (cells case.now.torus) (S.torus pass.source) pass.writes.items }
+    requires matched { IsMatched pass.space V.stencil.directions (cells inputs.now.case.now.torus) (S.torus pass.source) pass.writes.items }
     requires spared { S.spares pass.source pass.writes.items }
     requires arrays { region.old.count ≡ V.stencil.directions }
     requires count { array_vec_len shifts ≡ region.old.count }
     requires inside { AreInside region.old.space region.old.margin shifts.items }
     requires cutting { rows_of cut.now ≡ row_count region.old.space }
-    requires ready { InEachSlab region.old.space region.old.margin shifts.items cut.now region.old.slots (λ rows ranges cell. S.ready pass.source read.now places.now rows ranges) }
-    requires small { InEachSlab region.old.space region.old.margin shifts.items cut.now region.old.slots (λ rows ranges cell. (i : ℕ) → i < V.stencil.directions → unsigned_abs (S.before pass.source read.now places.now rows ranges cell i) ≤ size_limit case.now cell) }
+    requires ready { InEachSlab region.old.space region.old.margin shifts.items cut.now region.old.slots (λ rows ranges cell. S.ready pass.source inputs.now.read.now inputs.now.places.now rows ranges) }
+    requires small { InEachSlab region.old.space region.old.margin shifts.items cut.now region.old.slots (λ rows ranges cell. (i : ℕ) → i < V.stencil.directions → unsigned_abs (S.before pass.source inputs.now.read.now inputs.now.places.now rows ranges cell i) ≤ size_limit inputs.now.case.now cell) }
 
     // What the slabs' cells take, whichever slab has them, is what they write the results of.
-    ensures collided { (before : ℕ → ℕ → ℤ) → InEachSlab region.old.space region.old.margin shifts.items cut.now region.old.slots (λ rows ranges cell. (i : ℕ) → i < V.stencil.directions → S.before pass.source read.now places.now rows ranges cell i ≡ before cell i) →
-        IsCollided (is_sound case.now) (post case.now) V.stencil.directions before (λ cell i. range_slot region.old.space region.old.margin shifts.items (slice_index pass.writes.items i) cell) (HasSlot region.old.space region.old.margin shifts.items V.stencil.directions) 0 (cells region.old.space) (held region.old.slots) (held region.new.slots) result }
+    ensures collided { (before : ℕ → ℕ → ℤ) → InEachSlab region.old.space region.old.margin shifts.items cut.now region.old.slots (λ rows ranges cell. (i : ℕ) → i < V.stencil.directions → S.before pass.source inputs.now.read.now inputs.now.places.now rows ranges cell i ≡ before cell i) →
+        IsCollided (is_sound inputs.now.case.now) (post inputs.now.case.now) V.stencil.directions before (λ cell i. range_slot region.old.space region.old.margin shifts.items (slice_index pass.writes.items i) cell) (HasSlot region.old.space region.old.margin shifts.items V.stencil.directions) 0 (cells region.old.space) (held region.old.slots) (held region.new.slots) result }
     ensures same { region.new ≡ record region.old { slots = region.new.slots } }
 {
     let (_slabs, _slots) = (cut.slabs(), region.slots());
-    fork_by(crew, region, pass, true, case, read, places, shifts, cut)
+    fork_by(crew, region, pass, true, inputs, shifts, cut)
 }

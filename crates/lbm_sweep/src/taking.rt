@@ -1,6 +1,6 @@
 //! How cells take their populations.
 
-ghost use Rattle.std.specs.Prelude.{◌≡◌, ◌≢◌, ◌+◌, ◌<◌, ◌≤◌, Bool, ℕ, ℤ, List, pos, slice_index, slice_index_or};
+ghost use Rattle.std.specs.Prelude.{◌≡◌, ◌≢◌, ◌+◌, ◌<◌, ◌≤◌, Bool, true, ℕ, ℤ, List, pos, slice_index, slice_index_or};
 ghost use Rattle.lbm_space.specs.Stencil.{opposite};
 ghost use Rattle.lbm_arrays.specs.Lent.{Lent};
 ghost use Rattle.lbm_cell.specs.Rows.{entry};
@@ -22,6 +22,11 @@ pub trait Taking<V: VelocitySet>: Drop {
     /// What the cell of a place takes from a direction: direction, then place.
     ghost taken: { Self → Lent → ℕ → ℕ → ℤ };
 
+    /// What has to be known of eight cells from a place on, so that they are taken by the shorter way of `take_clear`.
+    ghost clear: { Self → ℕ → Type 0 };
+
+    ghost clear_once: { (s : Self) (at : ℕ) → IsProp (clear s at) };
+
     /// Whether the cells are gone over from the first one up, and else from the last one down.
     fn rises() -> bool
         ensures { result ≡ RISES };
@@ -33,6 +38,18 @@ pub trait Taking<V: VelocitySet>: Drop {
         requires fitting { (writes : List ℕ) × fits self.now writes loan.now }
         ensures cells { (j : ℕ) → j < n → slice_index_or result j (pos 0) ≡ taken self.now loan.now dir (at + j) }
         ensures past { (j : ℕ) → n ≤ j → slice_index_or result j (pos 0) ≡ pos 0 };
+
+    /// Whether eight cells from place `at` on are clear.
+    fn is_clear(&self, at: u32) -> bool
+        ensures { result ≡ true → clear self.now at };
+
+    /// What eight cells from place `at` on take from a direction, where they are clear.
+    fn take_clear(&self, loan: &Loan<'_>, dir: usize, at: u32) -> [i64; 8]
+        requires known { dir < V.stencil.directions }
+        requires within { IsWithin V.stencil.directions loan.now.ranges at 8 }
+        requires fitting { (writes : List ℕ) × fits self.now writes loan.now }
+        requires clear { clear self.now at }
+        ensures { (j : ℕ) → j < 8 → slice_index_or result j (pos 0) ≡ taken self.now loan.now dir (at + j) };
 
     ghost still_fits: { (s : Self) (writes : List ℕ) (a b : Lent) (from to : ℕ) → IsSameBut from to a b → fits s writes a → fits s writes b };
 

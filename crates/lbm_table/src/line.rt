@@ -3,17 +3,24 @@
 use crate::bytes::{added, from_hex, number_and_rest, number_of};
 use crate::setting::Setting;
 use crate::stop::Stop;
+use std::fs;
 use std::marker::Sync;
+use std::rt::Files;
 use std::thread::Threads;
 
 /// Does what a line says, or compares what it says with what was found.
-pub fn obey<R: Threads + Sync>(rt: &R, setting: &mut Setting, line: &str) -> Result<(), Stop> {
+pub fn obey<R: Files + Threads + Sync + AllocGlobal>(
+    rt: &R,
+    setting: &mut Setting,
+    line: &str,
+) -> Result<(), Stop> {
     let (word, rest) = line.split_once(' ').unwrap_or((line, ""));
     match word {
         "do" => setting.ask(rt, rest),
         "same" => same(setting, rest),
         "absent" => hold(setting.store.bytes(rest).is_none()),
         "file" => setting.begin(rest, b""),
+        "given" => given(rt, setting, rest),
         "copy" => copy(setting, rest),
         "cut" => cut(setting, rest),
         "put" => put(setting, rest),
@@ -47,6 +54,12 @@ fn same(setting: &Setting, rest: &str) -> Result<(), Stop> {
     let (one, other) = rest.split_once(' ').ok_or(Stop::Unread)?;
     let one = setting.store.bytes(one);
     hold(one.is_some() && one == setting.store.bytes(other))
+}
+
+// `given FILE` makes a file of what the file of this name in the program's folder holds, and lines are added to it from here on.
+fn given<R: Files + AllocGlobal>(rt: &R, setting: &mut Setting, name: &str) -> Result<(), Stop> {
+    let bytes = fs::read(rt, name).ok().ok_or(Stop::Unread)?;
+    setting.begin(name, &bytes)
 }
 
 // `copy FROM TO` makes a file hold the bytes of another, and lines are added to it from here on.

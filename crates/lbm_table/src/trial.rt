@@ -7,6 +7,7 @@ use crate::stop::Stop;
 use std::alloc::{AllocError, Global};
 use std::io;
 use std::marker::Sync;
+use std::rt::Files;
 use std::thread::Threads;
 
 /// A name, the choices that the trial is run for, and its lines.
@@ -44,7 +45,10 @@ impl Trial {
     }
 
     /// Whether each line holds, in the runs of all choices. It prints the line of the trial.
-    pub fn holds<R: Print + Threads + Sync + AllocGlobal>(&self, rt: &R) -> io::Result<bool> {
+    pub fn holds<R: Files + Print + Threads + Sync + AllocGlobal>(
+        &self,
+        rt: &R,
+    ) -> io::Result<bool> {
         let mut runs = 1usize;
         for choice in self.choices.iter() {
             runs = runs.saturating_mul(choice.runs().max(1));
@@ -60,7 +64,7 @@ impl Trial {
     }
 
     // The same in one run, where only a line that does not hold is printed.
-    fn holds_in<R: Print + Threads + Sync + AllocGlobal>(
+    fn holds_in<R: Files + Print + Threads + Sync + AllocGlobal>(
         &self,
         rt: &R,
         run: usize,

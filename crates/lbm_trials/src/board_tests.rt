@@ -91,7 +91,7 @@ fn thousand_pieces(alloc: Global) -> Result<Vec<Piece>, AllocError>
 
 // A turn that a thread gives back is of this board.
 #[derive(Drop)]
-struct IsOfBoard<T>(Snapshot<Board<T>>);
+pub(crate) struct IsOfBoard<T>(pub(crate) Snapshot<Board<T>>);
 
 impl<T> Promise<Turn<T>> for IsOfBoard<T> {
     ghost kept_by = { λ p turn. IsTurnOf p.0.value turn };

@@ -1,5 +1,6 @@
 // Runs of patterns, one of which is none of the project's.
 ghost use Rattle.std.specs.Prelude.{◌≡◌, ◌≤◌, IsNone, IfOk};
+ghost use Rattle.lbm_model.specs.Limits.{most_steps};
 ghost use Rattle.lbm_model.specs.Flow.{IsStateOf};
 ghost use Rattle.lbm_model.specs.Small.{IsNarrow};
 
@@ -10,6 +11,7 @@ use lbm_flow::{RunEnd, run_pattern, state_of};
 use lbm_grid::Grid;
 use lbm_lattice::Pattern;
 use lbm_model::{Case, NoGate, State, at_set, first_state};
+use lbm_rows::{Tiles, tile_rows};
 use lbm_space::{Cutting, Memory, VelocitySet};
 use lbm_swap::Swap;
 use lbm_two::Two;
@@ -20,12 +22,13 @@ use std::thread::Threads;
 
 // Which pattern runs a case.
 #[derive(Clone, Copy, Debug)]
-enum Kind {
+pub(crate) enum Kind {
     Plain,
     Two,
     Swap,
     Grid,
     Aa,
+    Tiles,
 }
 
 // The state that a pattern reaches, or how its run ends before.
@@ -37,7 +40,7 @@ fn reached<R: Threads + Sync, P: Pattern<NoGate> + Drop>(
 ) -> Result<Result<State, RunEnd>, Fail>
     requires unspent { IsNone (P.standing pattern).spent }
     requires begins { (P.standing pattern).time ≤ steps }
-    requires few { steps ≤ 1000000 }
+    requires few { steps ≤ most_steps }
 {
     match run_pattern(rt, &mut pattern, steps, &NoGate) {
         Ok(()) => Ok(Ok(state_of(alloc, &pattern)?)),
@@ -46,7 +49,7 @@ fn reached<R: Threads + Sync, P: Pattern<NoGate> + Drop>(
 }
 
 // The first state of a case.
-fn first_of<V: VelocitySet>(alloc: Global, case: &Case) -> Result<State, Memory>
+pub(crate) fn first_of<V: VelocitySet>(alloc: Global, case: &Case) -> Result<State, Memory>
     requires { case.now.stencil ≡ V.stencil }
     ensures state { IfOk result (IsStateOf case.now) }
     ensures narrow { IfOk result IsNarrow }
@@ -55,7 +58,7 @@ fn first_of<V: VelocitySet>(alloc: Global, case: &Case) -> Result<State, Memory>
     Ok(state)
 }
 
-// The same from the first state of a case, over three slabs.
+// The same from the first state of a case, over three slabs, or tiles of a row each that three turns take.
 fn reached_in<V: VelocitySet + Sync, R: Threads + Sync>(
     rt: &R,
     alloc: Global,
@@ -64,7 +67,7 @@ fn reached_in<V: VelocitySet + Sync, R: Threads + Sync>(
     steps: u64,
 ) -> Result<Result<State, RunEnd>, Fail>
     requires set { case.stencil ≡ V.stencil }
-    requires few { steps ≤ 1000000 }
+    requires few { steps ≤ most_steps }
 {
     let cut = Cutting::even(alloc, case.space(), 3)?;
     let state = first_of::<V>(alloc, &case)?;
@@ -94,18 +97,23 @@ fn reached_in<V: VelocitySet + Sync, R: Threads + Sync>(
             Aa::<V, Global>::start(alloc, case, &state, 0, cut)?,
             steps,
         ),
+        Kind::Tiles => {
+            let per_tile = tile_rows(case.space(), 1);
+            let tiles = Tiles::<V>::start(alloc, case, &state, 0, per_tile, 3)?;
+            reached(rt, alloc, tiles, steps)
+        }
     }
 }
 
 // The same of the case that a text spells.
-fn reached_of<R: Threads + Sync>(
+pub(crate) fn reached_of<R: Threads + Sync>(
     rt: &R,
     alloc: Global,
     kind: Kind,
     text: &str,
     steps: u64,
 ) -> Result<Result<State, RunEnd>, Fail>
-    requires few { steps ≤ 1000000 }
+    requires few { steps ≤ most_steps }
 {
     let bytes = text.as_bytes();
     if bytes.len() > 1000 {
@@ -129,7 +137,7 @@ fn each_pattern_reaches_the_state_of_the_plain_one(rt: HostRuntime) -> Result<()
         let Ok(plain) = plain else {
             return Err("the plain pattern stays in limits".into());
         };
-        for kind in [Kind::Two, Kind::Swap, Kind::Grid, Kind::Aa] {
+        for kind in [Kind::Two, Kind::Swap, Kind::Grid, Kind::Aa, Kind::Tiles] {
             match reached_of(&rt, alloc, kind, &text, 7)? {
                 Ok(state) => assert_eq!(rt; state.pops(), plain.pops(), "{set} {kind:?}"),
                 Err(end) => assert!(rt; false, "{set} {kind:?} {end:?}"),
@@ -146,7 +154,14 @@ fn each_pattern_leaves_the_limits_at_step_60(rt: HostRuntime) -> Result<(), Fail
     let alloc = rt.alloc();
     let text =
         "set = \"D2Q9\"\nomega = [1, 1]\nforce = [1024, 0, 0]\nmap = [\"..\", \"..\", \"..\"]\n";
-    for kind in [Kind::Plain, Kind::Two, Kind::Swap, Kind::Grid, Kind::Aa] {
+    for kind in [
+        Kind::Plain,
+        Kind::Two,
+        Kind::Swap,
+        Kind::Grid,
+        Kind::Aa,
+        Kind::Tiles,
+    ] {
         for steps in [60, 61] {
             match reached_of(&rt, alloc, kind, text, steps)? {
                 Ok(_) => assert!(rt; false, "{kind:?}"),

@@ -7,9 +7,9 @@ ghost use Rattle.lbm_model.specs.State.{population};
 ghost use Rattle.lbm_model.specs.Flow.{IsStateOf, next, out_of_limits};
 ghost use Rattle.lbm_model.specs.Small.{IsNarrow, IsSmall};
 
-use lbm_arrays::{Forks, Loan, Pass};
+use lbm_arrays::Forks;
 use lbm_cell::Pops;
-use lbm_lattice::Pattern;
+use lbm_lattice::{NoPass, NoServing, Pattern, Serves};
 use lbm_model::{Case, Gate, Lattice, State, StepEnd, post, sound};
 use lbm_space::{Memory, VelocitySet};
 use std::alloc::Global;
@@ -85,24 +85,16 @@ impl<V: VelocitySet> Lattice for Plain<V> {
     }
 }
 
-/// No work.
-#[derive(Drop)]
-pub(crate) struct NoWork;
-
-impl Pass for NoWork {
-    ghost ready = { λ w case read places piece rows ranges. Unit {0} };
-
-    ghost does = { λ w case read places piece rows old answer new. Unit {0} };
-
-    fn run(&self, _: &Case, _: &[i64], _: &[u32], _: u32, _: &mut Loan<'_>) -> Option<u32> {
-        None
-    }
-}
-
 impl<G: Gate, V: VelocitySet> Pattern<G> for Plain<V> {
-    type Work = NoWork;
+    type Work = NoPass;
 
-    fn step_by<C: Forks<NoWork>>(&mut self, _crew: &C) -> Result<(), StepEnd> {
+    type Turns = NoServing;
+
+    fn step_by<C: Forks<NoPass>, S: Serves<NoServing>>(
+        &mut self,
+        _crew: &C,
+        _servers: &S,
+    ) -> Result<(), StepEnd> {
         if let Some(cell) = self.spent {
             return Err(StepEnd::Range(cell));
         }

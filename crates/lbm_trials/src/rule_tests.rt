@@ -2,6 +2,7 @@
 
 ghost use Rattle.std.specs.Prelude.{◌≡◌, ◌<◌, ◌≤◌, ◌+◌, ◌^◌, ℕ, pos, slice_index_or, unsigned_abs};
 ghost use Rattle.lbm_space.specs.Torus.{cells};
+ghost use Rattle.lbm_cell.specs.Limits.{greatest_population};
 ghost use Rattle.lbm_cell.specs.Moments.{populations};
 ghost use Rattle.lbm_walk.specs.Blocks.{lane};
 
@@ -17,7 +18,7 @@ use std::test::Fail;
 // A population of a cell. In limits all of them are 50000 to 65000, so that the density is in limits in each set. Out of limits
 // one is below zero, or the density is too small or too large.
 fn population(cell: u32, dir: u32, in_limits: bool) -> i64
-    ensures { unsigned_abs result ≤ 2 ^ 28 }
+    ensures { unsigned_abs result ≤ greatest_population }
 {
     let mixed = (u64::from(cell) * 40503 + u64::from(dir) * 10007) % 14983;
     match cell / 64 % 3 {
@@ -32,7 +33,7 @@ fn population(cell: u32, dir: u32, in_limits: bool) -> i64
 // A population of each of eight cells, of which those of the mask are out of limits.
 fn lanes(cell: u32, dir: u32, out: u8) -> [i64; 8]
     requires { cell + 8 ≤ 2 ^ 31 }
-    ensures { (j : ℕ) → j < 8 → unsigned_abs (slice_index_or result j (pos 0)) ≤ 2 ^ 28 }
+    ensures { (j : ℕ) → j < 8 → unsigned_abs (slice_index_or result j (pos 0)) ≤ greatest_population }
 {
     let mut all = [0; 8];
     for j in 0..8u32 {
@@ -44,7 +45,7 @@ fn lanes(cell: u32, dir: u32, out: u8) -> [i64; 8]
 // The block of these cells. It has numbers past the directions of a set, too.
 fn block_of(cell: u32, out: u8) -> Block
     requires { cell + 8 ≤ 2 ^ 31 }
-    ensures { (i j : ℕ) → i < 27 → j < 8 → unsigned_abs (lane result.rows j i) ≤ 2 ^ 28 }
+    ensures { (i j : ℕ) → i < 27 → j < 8 → unsigned_abs (lane result.rows j i) ≤ greatest_population }
 {
     let mut block = Block::zero();
     for dir in 0..27 {
@@ -56,8 +57,8 @@ fn block_of(cell: u32, out: u8) -> Block
 // The populations of lane `j`.
 fn pops_in(block: &Block, j: usize) -> Pops
     requires lane { j < 8 }
-    requires small { (i k : ℕ) → i < 27 → k < 8 → unsigned_abs (lane block.now.rows k i) ≤ 2 ^ 28 }
-    ensures { (i : ℕ) → i < 27 → unsigned_abs (populations result.f i) ≤ 2 ^ 28 }
+    requires small { (i k : ℕ) → i < 27 → k < 8 → unsigned_abs (lane block.now.rows k i) ≤ greatest_population }
+    ensures { (i : ℕ) → i < 27 → unsigned_abs (populations result.f i) ≤ greatest_population }
 {
     let mut pops = Pops::zero();
     for i in 0..27 {
@@ -71,7 +72,7 @@ fn is_sent<V: VelocitySet>(case: &Case, cell: u32, pops: &Pops, after: &Block, j
     requires set { case.now.stencil ≡ V.stencil }
     requires cell { cell < cells case.now.torus }
     requires lane { j < 8 }
-    requires small { (i : ℕ) → i < 27 → unsigned_abs (populations pops.now.f i) ≤ 2 ^ 28 }
+    requires small { (i : ℕ) → i < 27 → unsigned_abs (populations pops.now.f i) ≤ greatest_population }
 {
     if !sound::<V>(case, cell, pops) {
         return false;
@@ -89,7 +90,7 @@ fn is_sent<V: VelocitySet>(case: &Case, cell: u32, pops: &Pops, after: &Block, j
 fn all_sent<V: VelocitySet>(case: &Case, cell: u32, before: &Block, after: &Block) -> bool
     requires set { case.now.stencil ≡ V.stencil }
     requires cells { cell + 8 ≤ cells case.now.torus }
-    requires small { (i j : ℕ) → i < 27 → j < 8 → unsigned_abs (lane before.now.rows j i) ≤ 2 ^ 28 }
+    requires small { (i j : ℕ) → i < 27 → j < 8 → unsigned_abs (lane before.now.rows j i) ≤ greatest_population }
 {
     let _ = case.space().cells();
     for j in 0..8u32 {
@@ -105,7 +106,7 @@ fn all_sent<V: VelocitySet>(case: &Case, cell: u32, before: &Block, after: &Bloc
 fn first_unsound<V: VelocitySet>(case: &Case, cell: u32, block: &Block) -> Option<u32>
     requires set { case.now.stencil ≡ V.stencil }
     requires cells { cell + 8 ≤ cells case.now.torus }
-    requires small { (i j : ℕ) → i < 27 → j < 8 → unsigned_abs (lane block.now.rows j i) ≤ 2 ^ 28 }
+    requires small { (i j : ℕ) → i < 27 → j < 8 → unsigned_abs (lane block.now.rows j i) ≤ greatest_population }
 {
     let _ = case.space().cells();
     for j in 0..8u32 {
@@ -122,7 +123,7 @@ fn agrees<V: VelocitySet>(case: &Case, rule: &CellRule<'_, V>, cell: u32, before
     requires set { case.now.stencil ≡ V.stencil }
     requires rule { rule.now ≡ case.now }
     requires cells { cell + 8 ≤ cells case.now.torus }
-    requires small { (i j : ℕ) → i < 27 → j < 8 → unsigned_abs (lane before.now.rows j i) ≤ 2 ^ 28 }
+    requires small { (i j : ℕ) → i < 27 → j < 8 → unsigned_abs (lane before.now.rows j i) ≤ greatest_population }
 {
     let first = first_unsound::<V>(case, cell, before);
     let mut after = *before;

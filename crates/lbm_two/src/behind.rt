@@ -11,7 +11,7 @@ ghost use Rattle.lbm_two.specs.Behind.{slot_behind, AreBehind, AreThere};
 
 use lbm_arrays::{Loan, place_behind};
 use lbm_space::{Space, VelocitySet};
-use lbm_sweep::{SlabCall, Slots, Source, Taking, collide_taking, lanes_at};
+use lbm_sweep::{SlabCall, Slots, Source, Taking, collide_taking, eight_at, lanes_at};
 use lbm_walk::Kernel;
 use std::marker::PhantomData;
 
@@ -79,6 +79,10 @@ impl<V: VelocitySet> Taking<V> for PlacesBehind<'_> {
 
     ghost taken = { λ w lent i p. slice_index_or w.numbers.now (slice_index w.starts i + (p - 1)) (pos 0) };
 
+    ghost clear = { λ w at. Unit {0} };
+
+    ghost clear_once = { λ w at. Prim.hlevel props };
+
     #[inline(always)]
     fn rises() -> bool
         ensures { result ≡ true }
@@ -89,6 +93,16 @@ impl<V: VelocitySet> Taking<V> for PlacesBehind<'_> {
     #[inline(always)]
     fn take(&self, _loan: &Loan<'_>, dir: usize, at: u32, n: u32) -> [i64; 8] {
         lanes_at(self.numbers, self.starts[dir] + (at - 1) as usize, n)
+    }
+
+    #[inline(always)]
+    fn is_clear(&self, _at: u32) -> bool {
+        true
+    }
+
+    #[inline(always)]
+    fn take_clear(&self, _loan: &Loan<'_>, dir: usize, at: u32) -> [i64; 8] {
+        eight_at(self.numbers, self.starts[dir] + (at - 1) as usize)
     }
 
     ghost still_fits = { λ w writes a b from to but fit i p known inner inside. fit i p known inner (subst (λ (len : ℕ). p + 1 < len) but.wide inside) };

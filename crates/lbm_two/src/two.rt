@@ -9,7 +9,7 @@ ghost use Rattle.lbm_sweep.specs.Lattices.{IsLaidOut};
 ghost use Rattle.lbm_sweep.specs.Steps.{IsStep};
 
 use crate::behind::Behind;
-use lbm_arrays::{Forks, Region, Step, shifts};
+use lbm_arrays::{Forks, Inputs, Region, Step, shifts};
 use lbm_lattice::{ArrayLattice, Propagation};
 use lbm_model::{Case, Layout};
 use lbm_space::{Cutting, Memory, VelocitySet};
@@ -100,5 +100,10 @@ fn write_next<V: VelocitySet, A: Allocator, C: Forks<Collision<V, Behind<V>>>>(
         space,
         writes,
     };
-    collide(crew, next, pass, case, now.slots(), &[], moved, cut)
+    let inputs = Inputs {
+        case,
+        read: now.slots(),
+        places: &[],
+    };
+    collide(crew, next, pass, &inputs, moved, cut)
 }

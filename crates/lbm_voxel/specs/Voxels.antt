@@ -3,6 +3,7 @@ use Rattle.std.specs.Prelude.{ℕ, List, [], ◌∷◌, map, find, pos, Bool, �
 use Rattle.std.specs.List.{range_with_len}
 use Rattle.lbm_number.specs.Number.{number_of}
 use Rattle.lbm_space.specs.Torus.{Torus, torus, cells}
+use Rattle.lbm_cell.specs.Limits.{least_density, greatest_density}
 use Rattle.lbm_model.specs.Case.{FlowCase}
 use Rattle.lbm_model.specs.Refusals.{◌>>=◌, demand}
 use Rattle.lbm_case.specs.Drawing.{is_space}
@@ -46,7 +47,7 @@ abbrev pub density_of : ℕ → Option ℕ
 density_of value =
     if value == 0 then Some 0
     else if value == 1 then Some 884736
-    else if nat_le 442368 value && nat_le value 1769472 then Some value
+    else if nat_le least_density value && nat_le value greatest_density then Some value
     else None
 
 -- the first density of cell x, where word x after the head is a value

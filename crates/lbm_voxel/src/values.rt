@@ -9,15 +9,16 @@ ghost use Rattle.lbm_voxel.specs.Voxels.{density_of, densities_in};
 
 use crate::fault::{VoxelEnd, VoxelFault};
 use crate::text::split_word;
+use lbm_cell::{GREATEST_DENSITY, LEAST_DENSITY};
 use lbm_number::number_of;
 use std::alloc::Global;
 
 /// The first density of a fluid cell whose value is 1: the unit.
 const UNIT: u32 = 884_736;
 /// The least first density of a fluid cell: half the unit.
-const LEAST: u32 = 442_368;
+const LEAST: u32 = LEAST_DENSITY as u32;
 /// The greatest that a value tells: twice the unit.
-const GREATEST: u32 = 1_769_472;
+const GREATEST: u32 = GREATEST_DENSITY as u32;
 
 /// The first density of a cell with a value, which is 0 in a solid cell.
 fn density_of(value: u32) -> Option<u32>

@@ -47,7 +47,7 @@ pub fn collide_row<V: VelocitySet, K: Kernel<V>, W: Walk<V>>(
         let n = (width - done).min(8);
         let start = next_from::<V, W>(width, done, n);
         walk.seek(at + start, n);
-        if let Some(lane) = kernel.collide(cell + start, walk) {
+        if let Some(lane) = walk.collide_by(kernel, cell + start) {
             let bad = cell + start + lane;
             if W::rises() {
                 return Some(bad);

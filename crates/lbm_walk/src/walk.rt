@@ -1,9 +1,10 @@
 //! Rows that go along the places of a row of cells.
 
-ghost use Rattle.std.specs.Prelude.{◌≡◌, ◌⊎◌, ◌<◌, ◌≤◌, ◌+◌, ℕ, ℤ, Bool};
-ghost use Rattle.lbm_walk.specs.Walked.{IsPending};
+ghost use Rattle.std.specs.Prelude.{◌≡◌, ◌⊎◌, ◌<◌, ◌≤◌, ◌+◌, ℕ, ℤ, Bool, Some, None};
+ghost use Rattle.lbm_walk.specs.First.{IsFirst};
+ghost use Rattle.lbm_walk.specs.Walked.{AreTaken, IsPending};
 
-use crate::Rows;
+use crate::{Kernel, Rows};
 use lbm_space::VelocitySet;
 
 /// Rows of cells at neighbouring places, which can be moved to other places.
@@ -47,6 +48,21 @@ pub trait Walk<V: VelocitySet>: Rows<V> {
         ensures after { (i p : ℕ) → after self.new i p ≡ after self.old i p }
         ensures holds { (k p : ℕ) → holds self.new k p ≡ holds self.old k p }
         ensures same { same self.old self.new };
+
+    /// What a kernel makes of these cells, as `Kernel::collide` tells it of any rows. A walk that knows more of some of its
+    /// cells, as that they are eight, may hand them to the kernel as rows of another type.
+    #[inline(always)]
+    fn collide_by<K: Kernel<V>>(&mut self, kernel: &K, cell: u32) -> Option<u32>
+        requires known { cell + Self.count self.old ≤ K.cells kernel.now }
+        requires small { (i j : ℕ) → i < V.stencil.directions → j < Self.count self.old → K.small kernel.now (cell + j) (Self.there self.old i j) }
+        ensures first { (f : ℕ → ℕ → ℤ) → AreTaken V.stencil.directions (Self.count self.old) f (Self.there self.old) → IsFirst (λ j. K.sound kernel.now (cell + j) (f j)) 0 (Self.count self.old) result }
+        ensures post { (f : ℕ → ℕ → ℤ) → AreTaken V.stencil.directions (Self.count self.old) f (Self.there self.old) → result ≡ None → AreTaken V.stencil.directions (Self.count self.old) (λ j. K.post kernel.now (cell + j) (f j)) (Self.sent self.new) }
+        ensures stopped { (k : ℕ) → result ≡ Some k → (i p : ℕ) → before self.new i p ≡ before self.old i p }
+        ensures count { Self.count self.new ≡ Self.count self.old }
+        ensures kept { Self.kept self.old self.new }
+    {
+        kernel.collide(cell, self)
+    }
 
     ghost there_is: { (r : Self) (i j : ℕ) → Self.there r i j ≡ before r i (place r + j) };
 

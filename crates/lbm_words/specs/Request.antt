@@ -1,5 +1,6 @@
 -- What words ask for. Names are the bytes of the words.
 use Rattle.std.specs.Prelude.{ℕ, ◌≤◌, ◌≢◌, List, length, option_map, Option, IfSome}
+use Rattle.lbm_model.specs.Limits.{most_steps}
 use Rattle.lbm_vtk.specs.declared.Format.{Format}
 use Rattle.lbm_words.specs.declared.request.PatternKind.{PatternKind}
 use Rattle.lbm_words.specs.declared.request.Choice.{Choice as CodeChoice}
@@ -100,7 +101,7 @@ pub record IsChoice (c : Choice) : Type 0 where
 
 -- the ranges of the numbers, and the names that differ
 pub record IsRun (r : Run) : Type 0 where
-  pub few_steps : r.steps ≤ 1000000
+  pub few_steps : r.steps ≤ most_steps
   pub choice : IsChoice r.choice
   pub out_is_not_case : r.out ≢ r.case
   pub save_is_not_out : IfSome r.save (λ save. save ≢ r.out)
@@ -109,7 +110,7 @@ pub record IsRun (r : Run) : Type 0 where
 pub record IsDemo (r : Demo) : Type 0 where
   pub some : 1 ≤ r.n
   pub few : r.n ≤ 128
-  pub few_steps : r.steps ≤ 1000000
+  pub few_steps : r.steps ≤ most_steps
   pub choice : IsChoice r.choice
   pub save_is_not_out : IfSome r.save (λ save. save ≢ r.out)
 

@@ -10,6 +10,7 @@ use Rattle.clap.specs.declared.parser.matches.ArgMatches.{ArgMatches}
 use Rattle.lbm_vtk.specs.declared.Format.{Format}
 use Rattle.lbm_vtk.specs.declared.Format.TheVariants.{Ascii}
 use Rattle.lbm_words.specs.declared.request.PatternKind.TheVariants.{Aa}
+use Rattle.lbm_model.specs.Limits.{most_steps}
 use Rattle.lbm_words.specs.Numbers.{number_between, numbers_of}
 use Rattle.lbm_words.specs.Names.{pattern_named, format_named}
 use Rattle.lbm_words.specs.Commands.{run_app, check_app, demo_app, voxels_app}
@@ -33,9 +34,9 @@ required form name rows = option_and_then form (first_of name rows)
 abbrev pub optional : {A : Type 0} → (Text → Option A) → A → Text → List Row → Option A
 optional form default name rows = option_map_or form (first_of name rows) (Some default)
 
--- the number of steps, at most a million
+-- the number of steps
 abbrev pub steps_of : List Row → Option ℕ
-steps_of = required (number_between 0 1000000) (codes "steps")
+steps_of = required (number_between 0 most_steps) (codes "steps")
 
 -- the format of the result
 abbrev pub format_of : List Row → Option Format

@@ -13,10 +13,9 @@ use crate::names::{format_named, pattern_named};
 use crate::numbers::{number_between, numbers_of};
 use crate::request::{Choice, PatternKind};
 use clap::ArgMatches;
+use lbm_model::MOST_STEPS;
 use lbm_vtk::Format;
 use std::alloc::Global;
-
-const MOST_STEPS: u32 = 1_000_000;
 
 const MOST_WORKERS: u32 = 64;
 

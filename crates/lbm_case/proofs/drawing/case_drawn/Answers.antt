@@ -11,14 +11,14 @@ use Rattle.lbm_case.proofs.drawing.case_drawn.Goals as goal
 pub force_of-force-requires : goal.force_of-force-requires
 force_of-force-requires c = force_is_small (settings_view c.args.settings.now) c.requires.ranged
 
-pub force_of-wall-requires : goal.force_of-wall-requires
-force_of-wall-requires c = wall_is_small (settings_view c.args.settings.now) c.requires.ranged
+pub force_of-velocity-requires : goal.force_of-velocity-requires
+force_of-velocity-requires c = wall_is_small (settings_view c.args.settings.now) c.requires.ranged
 
 pub with_wall-requires-clause-momentum : goal.with_wall-requires-clause-momentum
 with_wall-requires-clause-momentum c = momentum_is_allowed (settings_view c.args.settings.now) c.args.set c.requires.ranged c.requires.set
 
 pub with_wall-requires-clause-wall : goal.with_wall-requires-clause-wall
-with_wall-requires-clause-wall c = rw c.force_of-wall.ensures (wall_is_flat (settings_view c.args.settings.now) c.args.set c.requires.ranged c.requires.set)
+with_wall-requires-clause-wall c = rw c.force_of-velocity.ensures (wall_is_flat (settings_view c.args.settings.now) c.args.set c.requires.ranged c.requires.set)
 
 pub moving_in-requires : goal.moving_in-requires
 moving_in-requires c =
@@ -35,7 +35,7 @@ with_wall-requires-clause-densities c =
     rw (c.in_ok-densities.ensures, ← drawn.1) (are_densities _ _ _ _ _ (layers_positive s c.requires.ranged) c.requires.even (omega arith) (omega arith))
 
 pub with_wall-requires-clause-moving : goal.with_wall-requires-clause-moving
-with_wall-requires-clause-moving c = rw (c.in_ok-densities.ensures, c.in_ok-moving.ensures) (are_moving _ _ _)
+with_wall-requires-clause-moving c = rw (c.in_ok-densities.ensures, c.in_ok-cells.ensures) (are_moving _ _ _)
 
 pub returns-clause-densities : goal.returns-clause-densities
 returns-clause-densities c = rw (c.with_wall.ensures, c.in_ok-densities.ensures) (are_first_densities _ _ _ (omega arith) (omega arith))

@@ -27,8 +27,8 @@ returns-then-ne-clause-fault c = refused_case _ _ _ _ c.in_ok-version.version (s
 pub returns-then-not-fits-clause-fault : goal.returns-then-not-fits-clause-fault
 returns-then-not-fits-clause-fault c = refused_size _ _ _ _ c.in_ok-version.version (search rules) (search rules) (search rules) (search rules)
 
-pub returns-then-step_of-gt1000000-clause-fault : goal.returns-then-step_of-gt1000000-clause-fault
-returns-then-step_of-gt1000000-clause-fault c = refused_step _ _ _ _ c.in_ok-version.version (search rules) (search rules) (search rules) (search rules) (search rules)
+pub returns-then-step_of-from-clause-fault : goal.returns-then-step_of-from-clause-fault
+returns-then-step_of-from-clause-fault c = refused_step _ _ _ _ c.in_ok-version.version (search rules) (search rules) (search rules) (search rules) (search rules)
 
 pub returns-then-not-is_whole-clause-fault : goal.returns-then-not-is_whole-clause-fault
 returns-then-not-is_whole-clause-fault c = refused_digest _ _ _ _ c.in_ok-version.version (search rules) (search rules) (search rules) (search rules) (search rules) (search rules)

@@ -18,7 +18,7 @@ loop-j-preserved g c =
           | inl front ↦ (let other : i ≢ j = λ e. omega (arith, e, front) in done.others i k p (omega (arith, front, slab)) other known (inv.saved.saved i k p front known))
           | inr last ↦ (
               let one : j ≡ i = omega (arith, below, last) in
-              subst (λ (n : ℕ). IsSaved c.args.space.now g.V.VelocitySet.stencil c.args.rises c.args.cut.now c.args.begins.now c.args.width c.args.from.now.margin c.args.from.now.base c.args.from.now.slots.now c.save_slab.new.kept n k p) one (done.saved k p known))
+              subst (λ (n : ℕ). IsSaved c.args.space.now g.V.VelocitySet.stencil c.args.rises c.args.cut.now c.args.rooms.now.begins.now c.args.rooms.now.width c.args.from.now.margin c.args.from.now.base c.args.from.now.slots.now c.save_slab.new.kept n k p) one (done.saved k p known))
         ];
       };
     }

@@ -5,5 +5,5 @@ use Rattle.lbm_grid.proofs.strips.save_all.Given as goal
 abbrev pub invariant-loop-j : goal.invariant-loop-j
 invariant-loop-j g l = record {
   long : length l.kept ≡ length l.initial.kept;
-  saved : AreSaved l.space g.V.VelocitySet.stencil l.rises l.cut l.begins l.width l.from.margin l.from.base l.j l.from.slots.now l.kept;
+  saved : AreSaved l.space g.V.VelocitySet.stencil l.rises l.cut l.rooms.begins.now l.rooms.width l.from.margin l.from.base l.j l.from.slots.now l.kept;
 }

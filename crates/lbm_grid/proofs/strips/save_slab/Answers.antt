@@ -18,8 +18,8 @@ copy_run-requires-clause-to g c =
     let first : c.strip-first.result.0 ≡ first_of (strip_of t v rises k (first_row bounds j) (end_row bounds j)) = c.strip-first.ensures.first ∙ (λ i. first_of (strip_of t v rises k (a i) (b i))) in
     let past : c.strip-first.result.1 ≡ past_of (strip_of t v rises k (first_row bounds j) (end_row bounds j)) = c.strip-first.ensures.past ∙ (λ i. past_of (strip_of t v rises k (a i) (b i))) in
     let few = strip_size t c.padded.ensures.valid v g.met.V.VelocitySet.laws c.requires.from.dimension rises bounds c.slabs-slabs.ensures.cutting c.requires.cutting j k c.strip-first.result.0 c.strip-first.result.1 c.requires.slab known first past in
-    let room = room_inside t v bounds c.args.begins.now c.args.width _ c.requires.rooms j c.requires.slab in
-    let at = ap (slice_index c.args.begins.now) a in let next = up_to k v.directions c.args.width known in let whole = c.requires.rooms.whole in let long = c.loop-k.invariant.long in
+    let room = room_inside t v bounds c.args.rooms.now.begins.now c.args.rooms.now.width _ c.requires.rooms j c.requires.slab in
+    let at = ap (slice_index c.args.rooms.now.begins.now) a in let next = up_to k v.directions c.args.rooms.now.width known in let whole = c.requires.rooms.whole in let long = c.loop-k.invariant.long in
     omega (arith, few, room, at, next, whole, long)
 
 pub copy_run-requires-clause-from : goal.copy_run-requires-clause-from
@@ -32,7 +32,7 @@ copy_run-requires-clause-from g c =
 
 pub loop-k-preserved : goal.loop-k-preserved
 loop-k-preserved g c =
-    let t = c.args.space.now in let v = g.V.VelocitySet.stencil in let bounds = c.args.cut.now in let begins = c.args.begins.now in let width = c.args.width in let from = c.args.from.now in let slots = from.slots.now in
+    let t = c.args.space.now in let v = g.V.VelocitySet.stencil in let bounds = c.args.cut.now in let begins = c.args.rooms.now.begins.now in let width = c.args.rooms.now.width in let from = c.args.from.now in let slots = from.slots.now in
     let j = c.args.j in let k = c.loop-k.k in let rises = c.args.rises in let old = c.loop-k.kept in let new = c.copy_run.new.to in let inv = c.loop-k.invariant in
     let known : k < v.directions = omega (arith, g.met.V.VelocitySet.constants.0, c.Q-k-end.ensures, c.loop-k-test.true) in
     let a = c.slab-rows.ensures.first in let b = c.slab-rows.ensures.end in

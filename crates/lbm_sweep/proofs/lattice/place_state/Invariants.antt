@@ -1,10 +1,9 @@
-use Rattle.std.proofs.Common.{◌≡◌, ℕ, ◌<◌}
-use Rattle.lbm_model.specs.State.{population}
-use Rattle.lbm_model.specs.Layout.{population_in}
+use Rattle.std.proofs.Common.{◌≡◌, ◌*◌}
+use Rattle.lbm_sweep.specs.CellRows.{ArePlaced}
 use Rattle.lbm_sweep.proofs.lattice.place_state.Given as goal
 
-abbrev pub invariant-loop-cell : goal.invariant-loop-cell
-invariant-loop-cell g l = record {
+abbrev pub invariant-loop-number : goal.invariant-loop-number
+invariant-loop-number g l = record {
   same : l.region ≡ record l.initial.region { slots = l.region.slots };
-  placed : (x i : ℕ) → x < l.cell → i < g.V.VelocitySet.stencil.directions → population_in l.case l.layout l.region.slots x i ≡ population l.state x i;
+  placed : ArePlaced l.case l.layout l.state (l.number * l.case.torus.nx) l.region.slots;
 }

@@ -10,9 +10,9 @@ loop-i-preserved g c =
     let i = c.loop-i.i in let old = c.loop-i.invariant in
     let few = g.met.V.VelocitySet.laws.few_directions in
     let within : i < length c.loop-i.f.f = omega (arith, old.kept, g.met.V.VelocitySet.constants.0, c.Q-i-end.ensures) in
-    let fits : FitsSigned w64 c.population_at.result = search rules in
+    let fits : FitsSigned w64 c.population_in_row.result = search rules in
     record {
-      done = below_more _ _ (λ k below. let ne : k ≢ i = omega arith in rw get_or-set_other (old.done k below)) (rw (get_or-set_same, to_z-of_z w64 c.population_at.result fits) c.population_at.ensures.slot);
+      done = below_more _ _ (λ k below. let ne : k ≢ i = omega arith in rw get_or-set_other (old.done k below)) (rw (get_or-set_same, to_z-of_z w64 c.population_in_row.result fits) c.population_in_row.ensures.slot);
       kept = length-set _ _ _ ∙ old.kept;
     }
 

@@ -22,7 +22,7 @@ fork_by-requires-clause-ready g c = λ k known.
 
 pub returns-clause-collided : goal.returns-clause-collided
 returns-clause-collided g c = λ before same.
-    let S = g.S.Source in let case = c.args.case.now in let read = c.args.read.now in let places = c.args.places.now in
+    let S = g.S.Source in let case = c.args.inputs.now.case.now in let read = c.args.inputs.now.read.now in let places = c.args.inputs.now.places.now in
     let r = c.args.region.now in let new = c.fork_by.new.region in let w = c.args.pass in let shifts = c.args.shifts.items in let bounds = c.args.cut.now in let q = g.V.VelocitySet.stencil.directions in
     let valid = c.slots-slots.ensures.valid in let cutting = c.slabs-slabs.ensures.cutting in let count : length shifts ≡ q = c.requires.count ∙ c.requires.arrays in
     let whole = all_slots r q valid c.requires.arrays in

@@ -7,8 +7,8 @@ use Rattle.lbm_walk.proofs.Orders.{done_inside, next_inside, pending_next, pendi
 use Rattle.lbm_walk.proofs.Parts.{span_taken, span_small, walked_as, walked_lanes, walked_on, walked_all, found_rising, found_falling}
 use Rattle.lbm_walk.proofs.row.collide_row.Goals as goal
 
-pub collide-requires-clause-small : goal.collide-requires-clause-small
-collide-requires-clause-small g c =
+pub collide_by-requires-clause-small : goal.collide_by-requires-clause-small
+collide_by-requires-clause-small g c =
     let W = g.W.Walk in let R = g.W.Rows in let inv = c.loop-done.invariant in let one = c.seek.new.self in let done = c.loop-done.done in let width = c.args.width in
     let count = c.seek.ensures.count in let m = c.min-n.ensures in let more = c.loop-done-test.true in let within = inv.within in let n = c.min-n.result in let next = c.next_from-start.result in let is = c.next_from-start.ensures in
     let fits : done + n ≤ width = omega arith in let inside = next_inside W.RISES width done n fits in
@@ -37,8 +37,8 @@ returns-then-rises-clause-done g c = λ f taken place there.
     let from : cell + next ≡ cell + next_from W.RISES width done n = omega (arith, is) in let to : cell + next + R.count one ≡ cell + (next_from W.RISES width done n + n) = omega (arith, is, count) in
     let met : IsFirst test (cell + next_from W.RISES width done n) (cell + (next_from W.RISES width done n + n)) (Some bad) = subst (λ (p : ℕ × ℕ). IsFirst test p.0 p.1 (Some bad)) (λ k. (from k, to k)) here in
     let none : cell + 0 ≡ cell = omega arith in
-    subst (λ (m : ℕ). IsWalked (K.sound c.args.kernel.now) (K.post c.args.kernel.now) q place m (cell + width) f (W.after c.collide.new.rows) (Some bad)) none
-    (found_rising (K.sound c.args.kernel.now) (K.post c.args.kernel.now) q place f (λ k. cell + k) (λ a b le. omega (arith, le)) W.RISES width done n bad (W.after c.loop-done.walk) (W.after c.collide.new.rows) (sym c.rises.ensures ∙ c.if-rises.true) fits (inv.cells f taken place there) met)
+    subst (λ (m : ℕ). IsWalked (K.sound c.args.kernel.now) (K.post c.args.kernel.now) q place m (cell + width) f (W.after c.collide_by.new.self) (Some bad)) none
+    (found_rising (K.sound c.args.kernel.now) (K.post c.args.kernel.now) q place f (λ k. cell + k) (λ a b le. omega (arith, le)) W.RISES width done n bad (W.after c.loop-done.walk) (W.after c.collide_by.new.self) (sym c.rises.ensures ∙ c.if-rises.true) fits (inv.cells f taken place there) met)
 
 pub returns-in-Some-clause-done : goal.returns-in-Some-clause-done
 returns-in-Some-clause-done g c = λ f taken place there.
@@ -52,7 +52,7 @@ returns-in-Some-clause-done g c = λ f taken place there.
     let test : ℕ → Bool = λ x. K.sound c.args.kernel.now x (f x) in let bad : ℕ = cell + next + c.in-Some.lane in
     let here = first_lane_some test (cell + next) (R.count one) c.in-Some.lane (c.in-Some.ensures.first (λ j. f (cell + next + j)) took) in
     let to : cell + next + R.count one ≡ cell + (next + n) = omega (arith, count) in let none : cell + 0 ≡ cell = omega arith in
-    let lesser = c.first_in_row.ensures.first f (λ i x known less. ap (λ w. W.before w i (c.args.at + x)) (c.in-Some.ensures.stopped c.in-Some.lane refl) ∙ c.seek.ensures.before i (c.args.at + x)
+    let lesser = c.first_in_row.ensures.first f (λ i x known less. c.in-Some.ensures.stopped c.in-Some.lane refl i (c.args.at + x) ∙ c.seek.ensures.before i (c.args.at + x)
     ∙ inv.pending i (c.args.at + x) known (pending_before W.RISES c.args.at width done n next (c.args.at + x) (sym c.rises.ensures ∙ c.if-rises.false) fits is (omega (arith, less))).0 ∙ taken i x known (omega (arith, less, is, inside))) in
     subst (λ (p : ℕ × Option ℕ). IsWalked (K.sound c.args.kernel.now) (K.post c.args.kernel.now) q place p.0 (cell + width) f (W.after c.first_in_row.new.walk) p.1) (λ k. (none k, (sym c.or.ensures) k))
     (found_falling (K.sound c.args.kernel.now) (K.post c.args.kernel.now) q place f (λ k. cell + k) (λ a b le. omega (arith, le)) width next n bad c.first_in_row.result (W.after c.first_in_row.new.walk) (omega (arith, is, inside))
@@ -61,7 +61,7 @@ returns-in-Some-clause-done g c = λ f taken place there.
 pub loop-done-preserved : goal.loop-done-preserved
 loop-done-preserved g c =
     let W = g.W.Walk in let R = g.W.Rows in let K = g.K.Kernel in let q = g.V.VelocitySet.stencil.directions in let law = g.met.W.Walk in let start = c.args.walk.now in let at = c.args.at in
-    let inv = c.loop-done.invariant in let one = c.seek.new.self in let two = c.collide.new.rows in let done = c.loop-done.done in let width = c.args.width in let cell = c.args.cell in
+    let inv = c.loop-done.invariant in let one = c.seek.new.self in let two = c.collide_by.new.self in let done = c.loop-done.done in let width = c.args.width in let cell = c.args.cell in
     let count = c.seek.ensures.count in let m = c.min-n.ensures in let more = c.loop-done-test.true in let within = inv.within in let n = c.min-n.result in let next = c.next_from-start.result in let is = c.next_from-start.ensures in
     let fits : done + n ≤ width = omega arith in let inside = next_inside W.RISES width done n fits in let kept = c.in_default.ensures.kept in let put_at = c.seek.ensures.place in
     let within_row : next + R.count one ≤ width = omega (arith, is, inside, count) in
@@ -80,9 +80,9 @@ loop-done-preserved g c =
           λ i j known lane. law.there_is one i j ∙ c.seek.ensures.before i (W.place one + j) ∙ inv.pending i (W.place one + j) known (pending_next W.RISES at width done n next (W.place one) j fits is put_at (omega (arith, lane, count))) in
           let took = span_taken q cell at width next (R.count one) (W.place one) (R.there one) (W.before start) now put_at within_row f taken in
           let test : ℕ → Bool = λ x. K.sound c.args.kernel.now x (f x) in
-          let first : IsFirst (λ j. test (cell + next + j)) 0 (R.count one) None = subst (λ (r : Option ℕ). IsFirst (λ j. test (cell + next + j)) 0 (R.count one) r) c.in_default.is (c.collide.ensures.first (λ j. f (cell + next + j)) took) in
+          let first : IsFirst (λ j. test (cell + next + j)) 0 (R.count one) None = subst (λ (r : Option ℕ). IsFirst (λ j. test (cell + next + j)) 0 (R.count one) r) c.in_default.is (c.collide_by.ensures.first (λ j. f (cell + next + j)) took) in
           let same = law.kept_place one two kept in
-          let lanes = walked_lanes (K.sound c.args.kernel.now) (K.post c.args.kernel.now) q place f (cell + next) (R.count one) (W.place two) (W.after two) (R.sent two) first (c.collide.ensures.post (λ j. f (cell + next + j)) took c.in_default.is) (law.sent_is two)
+          let lanes = walked_lanes (K.sound c.args.kernel.now) (K.post c.args.kernel.now) q place f (cell + next) (R.count one) (W.place two) (W.after two) (R.sent two) first (c.collide_by.ensures.post (λ j. f (cell + next + j)) took c.in_default.is) (law.sent_is two)
           (λ j lane. let x : cell + next + j ≡ cell + (next + j) = omega arith in let p : at + (next + j) ≡ W.place two + j = omega (arith, put_at, same) in ap place x ∙ there (next + j) (omega (arith, lane, within_row)) ∙ p) in
           let reach = done_inside W.RISES width done within in
           let old = walked_as (K.sound c.args.kernel.now) (K.post c.args.kernel.now) q place f (cell + done_from W.RISES width done) (cell + done_to W.RISES width done) (W.after c.loop-done.walk) (W.after two)

@@ -1,38 +1,13 @@
-use Rattle.std.proofs.Common.{ℕ, ◌+◌, length, slice_index, sym, ap, ◌∙◌, arith}
-use Rattle.lbm_cell.specs.Rows.{entry}
-use Rattle.lbm_grid.specs.Near.{reading_at}
-use Rattle.lbm_grid.proofs.Runs.{outside_off, read_few, read_low, read_run, read_within, seen_run}
+use Rattle.std.proofs.Common.{length, slice_index}
+use Rattle.lbm_grid.proofs.Runs.{read_within}
 use Rattle.lbm_grid.proofs.near.PlacesNearTaking.take.Goals as goal
 
-pub is_whole-whole-requires : goal.is_whole-whole-requires
-is_whole-whole-requires g c = let few = c.requires.fitting.1.2.few in let fits = c.requires.within.fits in omega (arith, few, fits)
+pub lanes_near-requires-clause-there : goal.lanes_near-requires-clause-there
+lanes_near-requires-clause-there g c =
+    let w = c.args.self.now in let known = c.requires.known in let fit = c.requires.fitting.1 in
+    (c.args.dir, read_within g.W.Way.RISES g.V.VelocitySet.stencil.directions (length w.saved.now) c.args.loan.now w.readings (slice_index w.to c.args.dir) c.args.dir c.args.at c.args.n c.requires.within fit.2 known (fit.1 c.args.dir known))
 
-pub place_near-place-requires-clause-low : goal.place_near-place-requires-clause-low
-place_near-place-requires-clause-low g c =
-    let w = c.args.self.now in let loan = c.args.loan.now in let at = c.args.at in let n = c.args.n in let q = g.V.VelocitySet.stencil.directions in let dir = c.args.dir in let within = c.requires.within in let fit = c.requires.fitting.1 in
-    let is = read_within g.W.Way.RISES q (length w.saved.now) loan w.readings (slice_index w.to dir) dir at n within fit.2 c.requires.known (fit.1 dir c.requires.known) in
-    let off = outside_off q w.least w.most w.readings dir at n fit.3 c.requires.known (c.is_whole-whole.ensures c.if-whole.true) in
-    read_low g.W.Way.RISES w.saved.now loan (slice_index w.to dir) dir (reading_at w.readings dir) at n is within.some off
-
-pub place_near-place-requires-clause-high : goal.place_near-place-requires-clause-high
-place_near-place-requires-clause-high g c =
-    let w = c.args.self.now in let loan = c.args.loan.now in let at = c.args.at in let n = c.args.n in let q = g.V.VelocitySet.stencil.directions in let dir = c.args.dir in let within = c.requires.within in let fit = c.requires.fitting.1 in
-    let is = read_within g.W.Way.RISES q (length w.saved.now) loan w.readings (slice_index w.to dir) dir at n within fit.2 c.requires.known (fit.1 dir c.requires.known) in
-    let off = outside_off q w.least w.most w.readings dir at n fit.3 c.requires.known (c.is_whole-whole.ensures c.if-whole.true) in
-    let few = read_few g.W.Way.RISES w.saved.now loan (slice_index w.to dir) dir (reading_at w.readings dir) at n is within.some off in omega (arith, few)
-
-pub load_at-requires-clause-run : goal.load_at-requires-clause-run
-load_at-requires-clause-run g c =
-    let w = c.args.self.now in let loan = c.args.loan.now in let at = c.args.at in let n = c.args.n in let q = g.V.VelocitySet.stencil.directions in let dir = c.args.dir in let within = c.requires.within in let fit = c.requires.fitting.1 in
-    let is = read_within g.W.Way.RISES q (length w.saved.now) loan w.readings (slice_index w.to dir) dir at n within fit.2 c.requires.known (fit.1 dir c.requires.known) in
-    let off = outside_off q w.least w.most w.readings dir at n fit.3 c.requires.known (c.is_whole-whole.ensures c.if-whole.true) in
-    (dir, rw c.place_near-place.ensures (read_run g.W.Way.RISES w.saved.now loan (slice_index w.to dir) dir (reading_at w.readings dir) at n is within.some off))
-
-pub returns-then-whole-clause-cells : goal.returns-then-whole-clause-cells
-returns-then-whole-clause-cells g c j lane =
-    let w = c.args.self.now in let loan = c.args.loan.now in let at = c.args.at in let n = c.args.n in let q = g.V.VelocitySet.stencil.directions in let dir = c.args.dir in let r = reading_at w.readings dir in let within = c.requires.within in let fit = c.requires.fitting.1 in
-    let is = read_within g.W.Way.RISES q (length w.saved.now) loan w.readings (slice_index w.to dir) dir at n within fit.2 c.requires.known (fit.1 dir c.requires.known) in
-    let off = outside_off q w.least w.most w.readings dir at n fit.3 c.requires.known (c.is_whole-whole.ensures c.if-whole.true) in
-    c.load_at.ensures.slots dir j (rw c.place_near-place.ensures (read_run g.W.Way.RISES w.saved.now loan (slice_index w.to dir) dir r at n is within.some off)) lane
-    ∙ ap (λ (p : ℕ). entry loan.ranges dir (p + j)) c.place_near-place.ensures
-    ∙ sym (seen_run g.W.Way.RISES w.saved.now loan (slice_index w.to dir) dir r at n is within.some off j lane)
+pub returns-clause-cells : goal.returns-clause-cells
+returns-clause-cells g c j lane =
+    let w = c.args.self.now in let known = c.requires.known in let fit = c.requires.fitting.1 in
+    c.lanes_near.ensures.cells c.args.dir j (read_within g.W.Way.RISES g.V.VelocitySet.stencil.directions (length w.saved.now) c.args.loan.now w.readings (slice_index w.to c.args.dir) c.args.dir c.args.at c.args.n c.requires.within fit.2 known (fit.1 c.args.dir known)) lane

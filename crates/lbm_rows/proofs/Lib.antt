@@ -1,0 +1,14 @@
+pub mod Rings
+pub mod RowPads
+pub mod RowSteps
+pub mod Touching
+pub mod TileCells
+pub mod Served
+pub mod Finished
+pub mod LentRows
+pub mod LentTiles
+pub mod KeptSteps
+pub mod Results
+pub mod Cuts
+pub mod KeptStates
+pub mod StepMade

@@ -1,0 +1,11 @@
+pub mod Axes
+pub mod Rings
+pub mod Named
+pub mod Search
+pub mod Cells
+pub mod Directions
+pub mod Tables
+pub mod Rule
+pub mod Flow
+pub mod Accepted
+pub mod Worked
