@@ -1,6 +1,6 @@
 -- What a run and a request come to, a step at a time.
-use Rattle.std.proofs.Common.{◌≡◌, ◌∙◌, ℕ, ◌<◌, ◌≤◌, ◌++◌, List, length, Ok, Err, refl, sym, ap, subst}
-use Rattle.std.specs.Prelude.{IsOkAnd, pos, ◌+ℤ◌, ◌*ℤ◌, ◌-◌}
+use Rattle.std.proofs.Common.{◌≡◌, ℕ, ◌<◌, ◌≤◌, ◌++◌, List, length, Ok, Err, refl, sym}
+use Rattle.std.specs.Prelude.{pos, ◌+ℤ◌, ◌*ℤ◌, ◌-◌}
 use Rattle.std.proofs.lemmas.Bool.{le-leb, lt-leb}
 use Rattle.lbm_store.specs.Outside.{Files, content}
 use Rattle.lbm_model.specs.State.{mass}

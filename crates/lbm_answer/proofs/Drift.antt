@@ -9,7 +9,7 @@ use Rattle.lbm_cell.specs.declared.populations.Moment.{Moment}
 use Rattle.lbm_cell.specs.Moments.{momentum_part}
 use Rattle.lbm_sets.specs.Drift.{impulse, forward_directions}
 use Rattle.lbm_model.specs.State.{FlowState, population}
-use Rattle.lbm_model.specs.Case.{FlowCase, IsCase, is_solid}
+use Rattle.lbm_model.specs.Case.{FlowCase, IsCase}
 use Rattle.lbm_model.specs.Flow.{run, reached}
 use Rattle.lbm_model.specs.Drift.{total_momentum, IsOpen}
 use Rattle.lbm_model.proofs.Drift.{drift-run}

@@ -1,5 +1,5 @@
 -- The files that are read first: that of the case, and the voxel file.
-use Rattle.std.proofs.Common.{◌≡◌, ◌∙◌, ℕ, ◌≤◌, List, length, Some, Result, Ok, Err, sym, ap}
+use Rattle.std.proofs.Common.{◌≡◌, ◌∙◌, ℕ, ◌≤◌, List, length, Result, Ok, Err, sym, ap}
 use Rattle.std.specs.Option.{ForSome}
 use Rattle.lbm_store.specs.Outside.{Files, StoreState, content}
 use Rattle.lbm_model.specs.Case.{FlowCase}

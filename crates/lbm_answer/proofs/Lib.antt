@@ -2,7 +2,6 @@ pub mod Reading
 pub mod SameMoments
 pub mod SmallMoments
 pub mod Stepped
-pub mod Populations
 pub mod Runs
 pub mod Asked
 pub mod FirstFiles

@@ -1,6 +1,6 @@
 -- What may be decided for a request.
 use Rattle.std.proofs.Common.{◌≡◌, ◌∙◌, ℕ, ◌++◌, List, Option, Some, None, Result, Ok, Err, inl, inr, refl, sym, ap, subst}
-use Rattle.std.specs.Prelude.{IsOk, IsOkAnd, MatchResult}
+use Rattle.std.specs.Prelude.{IsOkAnd, MatchResult}
 use Rattle.std.specs.Option.{ForSome}
 use Rattle.lbm_store.specs.Outside.{Files, StoreState}
 use Rattle.lbm_model.specs.State.{mass}
@@ -23,7 +23,7 @@ use Rattle.lbm_answer.specs.Causes.{case_end, words_end}
 use Rattle.lbm_answer.specs.Files.{ReadsAs}
 use Rattle.lbm_answer.specs.Reports.{check_report, mass_of}
 use Rattle.lbm_answer.specs.Gen.{gen}
-use Rattle.lbm_answer.specs.Outcome.{Job, CutAt, CutShort, admitted, case_read, voxels_read, demo_job, job_of, run_job, written}
+use Rattle.lbm_answer.specs.Outcome.{Job, CutAt, CutShort, case_read, voxels_read, demo_job, job_of, run_job, written}
 use Rattle.lbm_answer.specs.Faults.{FaultAt, NamedFault}
 use Rattle.lbm_answer.specs.Answer.{Asked, Decides, DecidesFor, Decision, asked_of, asked_of_job, ready_of, ready_job, ready_voxels}
 use Rattle.lbm_answer.proofs.Asked.{run-unread, check-unread, voxels-uncased, voxels-unread, demo-refused, run-job, demo-job, voxels-job, outcome-job, keeps-job, check-read}

@@ -18,7 +18,7 @@ use Rattle.lbm_case.proofs.Spelled.{spells-cases}
 use Rattle.lbm_voxel.specs.declared.fault.VoxelFault.{VoxelFault}
 use Rattle.lbm_voxel.specs.Voxels.{voxels_of}
 use Rattle.lbm_voxel.proofs.MadeCases.{passed, makes-cases}
-use Rattle.lbm_words.specs.Request.{Run, Voxels, Request, run, check, demo, voxels}
+use Rattle.lbm_words.specs.Request.{Run, Voxels, run, check, demo, voxels}
 use Rattle.lbm_ckpt.specs.Ckpt.{checkpoint_of, ckpt, ckpt_1, ckpt_size}
 use Rattle.lbm_ckpt.specs.Laws.{CanBeKept}
 use Rattle.lbm_ckpt.proofs.Round.{read_again, exact_size}

@@ -6,9 +6,9 @@ use Rattle.lbm_space.specs.Torus.{Torus, cells, rows}
 use Rattle.lbm_space.specs.Cuttings.{rows_of}
 use Rattle.lbm_store.specs.Outside.{StoreState, with}
 use Rattle.lbm_model.specs.Case.{FlowCase}
+use Rattle.lbm_model.specs.State.{FlowState}
 use Rattle.lbm_model.specs.Flow.{IsStateOf, reached, range}
 use Rattle.lbm_model.specs.Small.{IsNarrow}
-use Rattle.lbm_model.specs.Standing.{Standing}
 use Rattle.lbm_ckpt.specs.Ckpt.{ckpt}
 use Rattle.lbm_vtk.specs.declared.Format.{Format}
 use Rattle.lbm_vtk.specs.Vtk.{vtk, FitsInts}
@@ -129,9 +129,9 @@ pub record IsLeft (left : Left) : Type 0 where
   pub fits : All FitsInts left.moments.items
   pub numbers : length left.state.numbers ≡ cells left.space * left.state.directions
 
--- what the state leaves for which a pattern stands
-pub record LeavesOf (now : Standing) (left : Left) : Type 0 where
-  pub state : left.state ≡ now.state
-  pub space : left.space ≡ now.case.torus
-  pub moments : left.moments.items ≡ printed_moments now.case now.state
-  pub report : Run left.report ≡ run_report now.case now.time now.state
+-- what a state of a case leaves after so many steps
+pub record LeavesOf (case : FlowCase) (step : ℕ) (s : FlowState) (left : Left) : Type 0 where
+  pub state : left.state ≡ s
+  pub space : left.space ≡ case.torus
+  pub moments : left.moments.items ≡ printed_moments case s
+  pub report : Run left.report ≡ run_report case step s

@@ -1,13 +1,13 @@
 // What the last state of a run leaves.
-ghost use Rattle.std.specs.Prelude.{IsNone, IfOk};
+ghost use Rattle.std.specs.Prelude.{IfOk};
+ghost use Rattle.lbm_model.specs.Flow.{IsStateOf};
 ghost use Rattle.lbm_answer.specs.Jobs.{LeavesOf};
 
 use crate::RunReport;
 use crate::measures::moments;
-use crate::state::state_of;
 use crate::sums::{mass, total_momentum};
 use lbm_cell::Moment;
-use lbm_model::{Lattice, State};
+use lbm_model::{Case, State};
 use lbm_space::{Memory, Space};
 use std::alloc::Global;
 use std::marker::Sync;
@@ -26,24 +26,26 @@ pub struct Left {
     pub report: RunReport,
 }
 
-/// What a pattern leaves, by the state that it stands for. It is not spent.
-pub fn conclude<P: Lattice, R: Threads + Sync>(
+/// What a state of a case leaves that a run has reached after `step` steps.
+pub fn conclude<R: Threads + Sync>(
     rt: &R,
     alloc: Global,
-    pattern: &P,
+    case: &Case,
+    step: u64,
+    state: State,
 ) -> Result<Left, Memory>
-    requires { IsNone (P.standing pattern.now).spent }
-    ensures { IfOk result (LeavesOf (P.standing pattern.now)) }
+    requires state { IsStateOf case.now state }
+    ensures { IfOk result (LeavesOf case.now step state) }
 {
-    let state = state_of::<P>(alloc, pattern)?;
-    let moments = moments(rt, alloc, pattern.case(), &state)?;
+    let space = *case.space();
+    let moments = moments(rt, alloc, case, &state)?;
     let report = RunReport {
-        step: pattern.time(),
+        step,
         mass: mass(&state),
         momentum: total_momentum(&moments),
     };
     Ok(Left {
-        space: *pattern.case().space(),
+        space,
         state,
         moments,
         report,

@@ -10,11 +10,5 @@ pub fn state_of<P: Lattice>(alloc: Global, pattern: &P) -> Result<State, Memory>
     requires { IsNone (P.standing pattern.now).spent }
     ensures { IfOk result (λ state. state ≡ (P.standing pattern.now).state) }
 {
-    let cells = pattern.case().space().cells();
-    let q = pattern.case().set().directions();
-    let mut pops = Vec::with_capacity(alloc, cells as usize * q as usize)?;
-    for k in 0..cells * q {
-        pops.push(pattern.get(k / q, k % q) as i32)?;
-    }
-    Ok(State::new(q, pops))
+    pattern.state(alloc)
 }

@@ -8,45 +8,9 @@ bool_ext true b f g = sym (f refl)
 bool_ext false true f g = g refl
 bool_ext false false f g = refl
 
-pub and_both : (a b : Bool) → a ≡ true → b ≡ true → (a && b) ≡ true
-and_both true b p q = q
-and_both false b p q = p
-
-pub and_first : (a b : Bool) → (a && b) ≡ true → a ≡ true
-and_first true b p = refl
-and_first false b p = p
-
-pub and_second : (a b : Bool) → (a && b) ≡ true → b ≡ true
-and_second true b p = p
-and_second false b p = cc
-
-pub or_cases : (a b : Bool) → (a || b) ≡ true → (a ≡ true) ⊎ (b ≡ true)
-or_cases true b p = inl refl
-or_cases false b p = inr p
-
-pub or_first : (a b : Bool) → a ≡ true → (a || b) ≡ true
-or_first true b p = refl
-or_first false b p = cc
-
-pub or_second : (a b : Bool) → b ≡ true → (a || b) ≡ true
-or_second true b p = refl
-or_second false b p = p
-
 pub or_not : (a : Bool) → (a || (true && not a)) ≡ true
 or_not true = refl
 or_not false = refl
-
-pub not_true : (a : Bool) → (a ≡ true → ⊥) → a ≡ false
-not_true true f = absurd (f refl)
-not_true false f = refl
-
-pub not_false : (a : Bool) → not a ≡ true → a ≡ true → ⊥
-not_false true p q = cc
-not_false false p q = cc
-
-pub true_not : (a : Bool) → (a ≡ true → ⊥) → not a ≡ true
-true_not true f = absurd (f refl)
-true_not false f = refl
 
 pub length-flags : (p : ℕ → Bool) (at n : ℕ) → length (flags p at n) ≡ n
 length-flags p at zero = refl

@@ -1,6 +1,6 @@
 -- What the pieces of two halves give together.
 use Rattle.std.proofs.Common.{◌≡◌, ℕ, ℤ, ◌+◌, ◌-◌, ◌<◌, ◌≤◌, inl, inr, true, false, List, [], ◌∷◌, ◌++◌, length, get_or, slice_index, Option, Some, None, refl, sym, ap, ◌∙◌, subst, arith, length-append}
-use Rattle.std.proofs.lemmas.Bool.{cases_lt}
+use Rattle.std.proofs.lemmas.Bool.{cases_lt, false_from_ne_true}
 use Rattle.std.proofs.lemmas.List.{get_or_append_left, get_or-append_right}
 use Rattle.lbm_patch.specs.Masks.{in_any, mask, both, without, either, picked}
 use Rattle.lbm_patch.specs.declared.Patch.{Patch}
@@ -8,7 +8,7 @@ use Rattle.core.specs.Mem.Slots.Ownership.{Filled}
 use Rattle.lbm_patch.specs.Whole.{IsRefilled}
 use Rattle.lbm_arrays.specs.Least.{lesser, least}
 use Rattle.lbm_arrays.specs.Forked.{Rows, IsLaid, piece, AllReady, AllDone, Asks, Gives, SameOthers}
-use Rattle.lbm_arrays.proofs.Flags.{not_true, picked_here, picked_there}
+use Rattle.lbm_arrays.proofs.Flags.{picked_here, picked_there}
 use Rattle.lbm_arrays.proofs.Ranges.{length-mask, get-mask, any_where, low_in, high_in, apart_parts, mask_low, mask_high, mask_whole, mask_off, mask_all, mask_rest, same_ranges}
 
 lesser-None : (a : Option ℕ) → a ≡ lesser a None
@@ -89,7 +89,7 @@ module _ (ready : ℕ → Rows → Type 0) (does : ℕ → Rows → Option ℕ �
       let ms = mask fs (mark from) (mark mid) n in let lm : length ms ≡ n = length-mask fs (mark from) (mark mid) n in
       same_ranges fs (mark k) (mark (k + 1)) n (picked ms ys zs) zs (Rattle.lbm_patch.proofs.Lengths.length-picked ms ys zs ∙ ez) ez (laid.apart (k + 1) (omega (arith, lt, top))) (λ i d h.
       let inside = within n mid to k i laid le' lt top h in
-      let off : in_any fs (mark from) (mark mid) i ≡ false = not_true (in_any fs (mark from) (mark mid) i) (λ p. apart_parts fs (mark from) (mark mid) (mark to) n i (laid.apart to top) (laid.rising mid to (omega (arith, le', lt)) top) p inside) in
+      let off : in_any fs (mark from) (mark mid) i ≡ false = false_from_ne_true (in_any fs (mark from) (mark mid) i) (λ p. apart_parts fs (mark from) (mark mid) (mark to) n i (laid.apart to top) (laid.rising mid to (omega (arith, le', lt)) top) p inside) in
       let w = any_where fs (mark mid) (mark to) i inside in let f = (laid.apart to top).fits w.0 w.1.here in let g = w.1.high in
       picked_there ms ys zs i d (ey ∙ sym lm) (ez ∙ sym lm) (get-mask fs (mark from) (mark mid) n i (omega (arith, f, g)) ∙ off))
 

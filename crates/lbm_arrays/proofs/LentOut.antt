@@ -1,7 +1,7 @@
 -- The ranges of a cutting's slabs are apart, lie in their arrays and cover the rows.
 use Rattle.std.proofs.Common.{◌≡◌, ℕ, zero, suc, ◌+◌, ◌-◌, ◌*◌, ◌^◌, ◌<◌, ◌≤◌, inl, inr, List, [], length, get_or, slice_index, slice_range, ℤ, pos, ◌+ℤ◌, unsigned_abs, false, sym, ap, subst, ◌∙◌, arith}
 use Rattle.std.proofs.lemmas.Int.{ints}
-use Rattle.std.proofs.lemmas.Bool.{cases_lt}
+use Rattle.std.proofs.lemmas.Bool.{cases_lt, false_from_ne_true}
 use Rattle.std.proofs.lemmas.List.{ext_get_or, length-map, get_or-map}
 use Rattle.std.proofs.lemmas.List.FromFn.{length-map-range_with_len, get_or-map-range_with_len}
 use Rattle.lbm_space.specs.Sum.{list_below}
@@ -15,7 +15,6 @@ use Rattle.lbm_arrays.specs.Arrays.{array_size, slot_at}
 use Rattle.lbm_arrays.specs.Ranges.{ranges}
 use Rattle.lbm_arrays.specs.Forked.{mark, marks_of, IsLaid}
 use Rattle.lbm_arrays.specs.LentRanges.{shift, range_start, IsLent, lent, slab_rows, AreInside, AreLent}
-use Rattle.lbm_arrays.proofs.Flags.{not_true}
 use Rattle.lbm_arrays.proofs.Ranges.{any_where}
 use Rattle.lbm_arrays.proofs.Slots.{up_to}
 use Rattle.lbm_arrays.proofs.Marks.{length-marks, get-marks, marks_rise, bound_known}
@@ -93,7 +92,7 @@ module _ (t : Torus) (space : IsSpace t) (margin : ℕ) (shifts : List ℤ) (ins
 
   -- the slots of no range
   pub outside : (s : ℕ) → ((k : ℕ) → k < length shifts → IsLent t margin shifts k 0 (rows t) s → ⊥) → in_any (firsts t margin shifts) 0 (mark t (rows t)) s ≡ false
-  outside s none = not_true (in_any (firsts t margin shifts) 0 (mark t (rows t)) s) (λ yes.
+  outside s none = false_from_ne_true (in_any (firsts t margin shifts) 0 (mark t (rows t)) s) (λ yes.
       let w = any_where (firsts t margin shifts) 0 (mark t (rows t)) s yes in
       let here = w.1.here in let low = w.1.low in let high = w.1.high in let len = length-firsts t margin shifts in
       let known : w.0 < length shifts = omega arith in

@@ -1,12 +1,12 @@
 -- What the ranges of slabs are, slot by slot: they are disjoint, they cover, and a write in one changes no other.
 use Rattle.std.proofs.Common.{◌≡◌, ℕ, zero, suc, ◌+◌, ◌-◌, ◌<◌, ◌≤◌, ◌⊎◌, inl, inr, Bool, true, false, not, ◌&&◌, ◌||◌, List, [], ◌∷◌, length, get_or, take, slice_range, set, refl, sym, ap, subst, ◌∙◌, arith, rules, le-leb, lt-ltb, leb-true, ltb-true, leb, ltb, length-set, length-take}
-use Rattle.std.proofs.lemmas.Bool.{cases_lt, cases_eq}
+use Rattle.std.proofs.lemmas.Bool.{and_from, and_parts, both_ways, cases_lt, cases_eq, false_from_ne_true, not-true, not_from_false, or_cases, or_left, or_right}
 use Rattle.std.proofs.lemmas.List.{set-set, set-get_or, length-map, get_or_past, same_lists, places, get_or-map, get_or-set_same, get_or-set_other, ext_get_or}
 use Rattle.lbm_patch.specs.Masks.{both, without, either}
 use Rattle.lbm_patch.proofs.Lengths.{length-both, length-without, length-either}
 use Rattle.lbm_patch.specs.Masks.{in_one, in_any, mask}
 use Rattle.lbm_arrays.specs.Ranges.{ranges, with_slot, over, with_run, IsApart}
-use Rattle.lbm_arrays.proofs.Flags.{or_not, bool_ext, and_both, and_first, and_second, or_cases, or_first, or_second, not_false, true_not, length-flags, get-flags, get-both, get-without, get-either}
+use Rattle.lbm_arrays.proofs.Flags.{or_not, bool_ext, length-flags, get-flags, get-both, get-without, get-either}
 
 -- slot i lies in the part of range k
 pub record IsIn (fs : List ℕ) (lo hi i k : ℕ) : Type 0 where
@@ -15,20 +15,20 @@ pub record IsIn (fs : List ℕ) (lo hi i k : ℕ) : Type 0 where
   pub high : i < get_or fs k 0 + hi
 
 pub one_from : (lo hi i f : ℕ) → f + lo ≤ i → i < f + hi → in_one lo hi i f ≡ true
-one_from lo hi i f p q = and_both (leb (f + lo) i) (ltb i (f + hi)) (le-leb _ _ p) (lt-ltb _ _ q)
+one_from lo hi i f p q = and_from (leb (f + lo) i) (ltb i (f + hi)) (le-leb _ _ p) (lt-ltb _ _ q)
 
 pub any_from : (fs : List ℕ) (lo hi i k : ℕ) → IsIn fs lo hi i k → in_any fs lo hi i ≡ true
 any_from [] lo hi i k h = let l : k < 0 = h.here in absurd (omega (arith, l))
-any_from (f ∷ fs) lo hi i zero h = or_first (in_one lo hi i f) (in_any fs lo hi i) (one_from lo hi i f h.low h.high)
+any_from (f ∷ fs) lo hi i zero h = or_left (in_one lo hi i f) (in_any fs lo hi i) (one_from lo hi i f h.low h.high)
 any_from (f ∷ fs) lo hi i (suc k) h =
     let l : suc k < suc (length fs) = h.here in
-    or_second (in_one lo hi i f) (in_any fs lo hi i) (any_from fs lo hi i k (record { here = omega (arith, l); low = h.low; high = h.high }))
+    or_right (in_one lo hi i f) (in_any fs lo hi i) (any_from fs lo hi i k (record { here = omega (arith, l); low = h.low; high = h.high }))
 
 pub any_where : (fs : List ℕ) (lo hi i : ℕ) → in_any fs lo hi i ≡ true → (k : ℕ) × IsIn fs lo hi i k
 any_where [] lo hi i e = cc
 any_where (f ∷ fs) lo hi i e =
     elim (or_cases (in_one lo hi i f) (in_any fs lo hi i) e) [
-      | inl p ↦ (0, record { here = omega arith; low = leb-true _ _ (and_first (leb (f + lo) i) (ltb i (f + hi)) p); high = ltb-true _ _ (and_second (leb (f + lo) i) (ltb i (f + hi)) p) })
+      | inl p ↦ (0, record { here = omega arith; low = leb-true _ _ (and_parts (leb (f + lo) i) (ltb i (f + hi)) p).0; high = ltb-true _ _ (and_parts (leb (f + lo) i) (ltb i (f + hi)) p).1 })
       | inr p ↦ (let r = any_where fs lo hi i p in let l = r.1.here in (suc (r.0), record { here = omega (arith, l); low = r.1.low; high = r.1.high }))
     ]
 
@@ -85,21 +85,21 @@ mask_rest ms fs lo hi n i e full l =
 pub mask_low : (fs : List ℕ) (lo mid hi n : ℕ) → mid ≤ hi → both (mask fs lo hi n) (mask fs lo mid n) ≡ mask fs lo mid n
 mask_low fs lo mid hi n le = same_masks _ fs lo mid n (length-both (mask fs lo hi n) (mask fs lo mid n) ∙ length-mask fs lo hi n) (λ i l.
     get-both (mask fs lo hi n) (mask fs lo mid n) i ∙ (λ t. get-mask fs lo hi n i l t && get-mask fs lo mid n i l t)
-    ∙ bool_ext (in_any fs lo hi i && in_any fs lo mid i) (in_any fs lo mid i) (and_second (in_any fs lo hi i) (in_any fs lo mid i)) (λ p. and_both (in_any fs lo hi i) (in_any fs lo mid i) (low_in fs lo mid hi i le p) p))
+    ∙ bool_ext (in_any fs lo hi i && in_any fs lo mid i) (in_any fs lo mid i) (λ p. (and_parts (in_any fs lo hi i) (in_any fs lo mid i) p).1) (λ p. and_from (in_any fs lo hi i) (in_any fs lo mid i) (low_in fs lo mid hi i le p) p))
 
 pub mask_high : (fs : List ℕ) (lo mid hi n : ℕ) → IsApart fs hi n → lo ≤ mid → mid ≤ hi → without (mask fs lo hi n) (mask fs lo mid n) ≡ mask fs mid hi n
 mask_high fs lo mid hi n a le le' = same_masks _ fs mid hi n (length-without (mask fs lo hi n) (mask fs lo mid n) ∙ length-mask fs lo hi n) (λ i l.
     get-without (mask fs lo hi n) (mask fs lo mid n) i ∙ (λ t. get-mask fs lo hi n i l t && not (get-mask fs lo mid n i l t))
     ∙ bool_ext (in_any fs lo hi i && not (in_any fs lo mid i)) (in_any fs mid hi i)
-    (λ p. elim (part_of fs lo mid hi i (and_first (in_any fs lo hi i) (not (in_any fs lo mid i)) p)) [ inl q ↦ absurd (not_false (in_any fs lo mid i) (and_second (in_any fs lo hi i) (not (in_any fs lo mid i)) p) q) | inr q ↦ q ])
-    (λ p. and_both (in_any fs lo hi i) (not (in_any fs lo mid i)) (high_in fs lo mid hi i le p) (true_not (in_any fs lo mid i) (λ q. apart_parts fs lo mid hi n i a le' q p))))
+    (λ p. elim (part_of fs lo mid hi i (and_parts (in_any fs lo hi i) (not (in_any fs lo mid i)) p).0) [ inl q ↦ absurd (both_ways (in_any fs lo mid i) (not-true (in_any fs lo mid i) (and_parts (in_any fs lo hi i) (not (in_any fs lo mid i)) p).1) q) | inr q ↦ q ])
+    (λ p. and_from (in_any fs lo hi i) (not (in_any fs lo mid i)) (high_in fs lo mid hi i le p) (not_from_false (in_any fs lo mid i) (false_from_ne_true (in_any fs lo mid i) (λ q. apart_parts fs lo mid hi n i a le' q p)))))
 
 pub mask_whole : (fs : List ℕ) (lo mid hi n : ℕ) → lo ≤ mid → mid ≤ hi → either (mask fs lo mid n) (mask fs mid hi n) ≡ mask fs lo hi n
 mask_whole fs lo mid hi n le le' = same_masks _ fs lo hi n (length-either (mask fs lo mid n) (mask fs mid hi n) ∙ length-mask fs lo mid n) (λ i l.
     get-either (mask fs lo mid n) (mask fs mid hi n) i (length-mask fs mid hi n ∙ sym (length-mask fs lo mid n)) ∙ (λ t. get-mask fs lo mid n i l t || get-mask fs mid hi n i l t)
     ∙ bool_ext (in_any fs lo mid i || in_any fs mid hi i) (in_any fs lo hi i)
     (λ p. elim (or_cases (in_any fs lo mid i) (in_any fs mid hi i) p) [ inl q ↦ low_in fs lo mid hi i le' q | inr q ↦ high_in fs lo mid hi i le q ])
-    (λ p. elim (part_of fs lo mid hi i p) [ inl q ↦ or_first (in_any fs lo mid i) (in_any fs mid hi i) q | inr q ↦ or_second (in_any fs lo mid i) (in_any fs mid hi i) q ]))
+    (λ p. elim (part_of fs lo mid hi i p) [ inl q ↦ or_left (in_any fs lo mid i) (in_any fs mid hi i) q | inr q ↦ or_right (in_any fs lo mid i) (in_any fs mid hi i) q ]))
 
 pub length-range : {X : Type 0} (xs : List X) (a b : ℕ) → b ≤ length xs → length (slice_range xs a b) ≡ b - a
 length-range xs a b l = search (rules, places)

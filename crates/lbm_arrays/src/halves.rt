@@ -13,6 +13,7 @@ ghost use Rattle.lbm_arrays.specs.Forked.{mark, marks_of, ready_in, does_in, Ask
 
 use crate::{Loan, PieceWork};
 use arrayvec::ArrayVec;
+use lbm_cell::MAX_Q;
 use lbm_model::Gate;
 use lbm_patch::{Patch, lend};
 use lbm_space::{Cutting, Space};
@@ -44,7 +45,7 @@ fn lesser_of(a: Option<u32>, b: Option<u32>) -> Option<u32>
 #[derive(Drop)]
 pub(crate) struct Plan {
     pub(crate) space: Space,
-    pub(crate) firsts: ArrayVec<usize, 27>,
+    pub(crate) firsts: ArrayVec<usize, MAX_Q>,
 }
 
 // What is the same for all pieces: which ranges are lent, to the slabs of which cutting, the gate before each, and the work.

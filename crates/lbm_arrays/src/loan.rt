@@ -51,6 +51,26 @@ impl Loan<'_> {
         self.firsts[dir as usize] + self.lo
     }
 
+    /// The eight slots from place `at` of the range that begins at slot `first`.
+    #[inline(always)]
+    pub fn load_block(&self, first: usize, at: u32) -> [i64; 8]
+        requires { (k : ℕ) × IsRun self.now first k at 8 }
+        ensures { (k j : ℕ) → IsRun self.now first k at 8 → j < 8 → slice_index_or result j (pos 0) ≡ slice_index_or (slice_index_or self.now.ranges k []) (at + j) (pos 0) }
+    {
+        read_block(&self.patch, first + at as usize)
+    }
+
+    /// Writes eight lanes to the range that begins at slot `first`, from place `at` on.
+    #[inline(always)]
+    pub fn store_block(&mut self, first: usize, at: u32, v: [i64; 8])
+        requires { (k : ℕ) × IsRun self.old first k at 8 }
+        ensures ranges { (k : ℕ) → IsRun self.old first k at 8 → self.new.ranges ≡ with_run self.old.ranges k at (take 8 v) }
+        ensures rows { self.new.rows ≡ self.old.rows }
+        ensures place { self.new.place ≡ self.old.place }
+    {
+        write_block(&mut self.patch, first + at as usize, v);
+    }
+
     /// The `n` slots, 1 to 8, from place `at` of the range that begins at slot `first`. The other lanes are 0.
     #[inline(always)]
     pub fn load_at(&self, first: usize, at: u32, n: u32) -> [i64; 8]
@@ -61,7 +81,7 @@ impl Loan<'_> {
         ensures others { (j : ℕ) → n ≤ j → slice_index_or result j (pos 0) ≡ pos 0 }
     {
         if n == 8 {
-            return read_block(&self.patch, first + at as usize);
+            return self.load_block(first, at);
         }
         read_run(&self.patch, first + at as usize, n as usize)
     }
@@ -77,7 +97,7 @@ impl Loan<'_> {
         ensures place { self.new.place ≡ self.old.place }
     {
         if n == 8 {
-            write_block(&mut self.patch, first + at as usize, v);
+            self.store_block(first, at, v);
         } else {
             write_run(&mut self.patch, first + at as usize, n as usize, v);
         }

@@ -12,15 +12,16 @@ ghost use Rattle.lbm_arrays.specs.LentRanges.{range_start, lent, slab_rows, AreI
 use crate::halves::{Plan, fork_slice};
 use crate::{Lending, PieceWork};
 use arrayvec::ArrayVec;
+use lbm_cell::MAX_Q;
 use lbm_model::Gate;
 use lbm_space::{Cutting, Space};
 use std::thread::Threads;
 
 /// For each array of a region, how far the ranges that are lent of it are moved, counted from its first slot.
-pub type Shifts = ArrayVec<i64, 27>;
+pub type Shifts = ArrayVec<i64, MAX_Q>;
 
 // The slot at which the range of each array begins for the first row.
-fn firsts_of(space: &Space, margin: u32, shifts: &Shifts) -> ArrayVec<usize, 27>
+fn firsts_of(space: &Space, margin: u32, shifts: &Shifts) -> ArrayVec<usize, MAX_Q>
     requires margin { margin ≤ padded space.now }
     requires inside { AreInside space.now margin shifts.now.items }
     ensures valid { IsSpace space.now }
@@ -29,7 +30,7 @@ fn firsts_of(space: &Space, margin: u32, shifts: &Shifts) -> ArrayVec<usize, 27>
 {
     let size = margin as usize + space.padded() as usize;
     let start = space.row_start(0);
-    let mut firsts: ArrayVec<usize, 27> = ArrayVec::new();
+    let mut firsts: ArrayVec<usize, MAX_Q> = ArrayVec::new();
     for (k, shift) in shifts.as_slice().iter().enumerate() {
         firsts.push(k * size + moved(start, *shift));
     }

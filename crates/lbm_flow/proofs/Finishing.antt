@@ -1,55 +1,56 @@
 -- What a run of a pattern leaves, by where it begins.
-use Rattle.std.proofs.Common.{◌≡◌, ◌∙◌, ℕ, zero, suc, ◌-◌, ◌+◌, Bool, None, Ok, Err, ap, sym, subst, arith}
+use Rattle.std.proofs.Common.{◌≡◌, ◌∙◌, ℕ, zero, suc, ◌-◌, Bool, None, Result, Ok, Err, ap, sym, subst}
 use Rattle.lbm_model.specs.Case.{FlowCase}
 use Rattle.lbm_model.specs.State.{FlowState}
-use Rattle.lbm_model.specs.Flow.{IsStateOf, run, reached}
+use Rattle.lbm_model.specs.Flow.{IsStateOf, reached}
 use Rattle.lbm_model.specs.Standing.{Standing}
 use Rattle.lbm_model.proofs.Mass.{IsStateOf-next}
+use Rattle.lbm_answer.specs.declared.answer.End.{End}
 use Rattle.lbm_answer.specs.declared.left.Left.{Left}
 use Rattle.lbm_answer.specs.Reports.{printed_moments, run_report}
-use Rattle.lbm_answer.specs.Outcome.{Beginning, run_from}
+use Rattle.lbm_answer.specs.Outcome.{Beginning}
 use Rattle.lbm_answer.specs.Jobs.{CanBegin, Finishes, Leaves, LeavesOf}
 use Rattle.lbm_flow.specs.declared.run.RunEnd.{RunEnd}
 use Rattle.lbm_flow.specs.declared.run.RunEnd.TheVariants.{Range, Memory}
 use Rattle.lbm_flow.specs.Causes.{run_end}
-use Rattle.lbm_flow.specs.Running.{RunGives, after, beginning_of}
-
--- a pattern that stands for where a run begins
-abbrev pub at_beginning : FlowCase → Beginning → Standing
-at_beginning case begin = record { case = case; time = begin.time; spent = None; state = begin.state }
-
-pub begins_at : (now : Standing) → now.spent ≡ None → now ≡ at_beginning now.case (beginning_of now)
-begins_at now free = λ j. record now { spent = free j }
+use Rattle.lbm_flow.specs.Running.{RunGives, Reaches, after, beginning_of}
 
 -- steps keep to the states of the case
 is_state-after : (case : FlowCase) (s : FlowState) (n : ℕ) → IsStateOf case s → IsStateOf case (after case s n)
 is_state-after case s zero state = state
 is_state-after case s (suc n) state = IsStateOf-next case (after case s n)
 
-pub leaves-from : (case : FlowCase) (steps : ℕ) (begin : Beginning) (old new : Standing) (wants : Bool) (left : Left) → old ≡ at_beginning case begin
-    → CanBegin case steps begin → RunGives wants old new steps (Ok tt) → LeavesOf new left → Leaves case steps begin left
-leaves-from case steps begin old new wants left begins can gives leaves =
-    let ahead = can.ahead in
-    let ends : run_from case steps begin ≡ reached new.state =
-    ap (λ (now : Standing). run now.case now.state now.time (steps - now.time)) (sym begins) ∙ gives.0 in
-    let case_is : new.case ≡ case = gives.1.case ∙ ap (λ now. now.case) begins in
-    let all : begin.time + (steps - begin.time) ≡ steps = omega (arith, ahead) in
-    let time_is : new.time ≡ steps = gives.1.time ∙ ap (λ (now : Standing). now.time + (steps - now.time)) begins ∙ all in
-    let state_is : new.state ≡ after case begin.state (steps - begin.time) =
-    gives.1.state ∙ ap (λ (now : Standing). after now.case now.state (steps - now.time)) begins in
-    let whole : left.state ≡ after case begin.state (steps - begin.time) = leaves.state ∙ state_is in
+-- a pattern that has stepped to the last step stands for what the run reaches
+pub reaches-stepped : (steps : ℕ) (old new : Standing) (wants : Bool) → CanBegin old.case steps (beginning_of old) → RunGives wants old new steps (Ok tt)
+    → Reaches old.case steps (beginning_of old) (Ok new.state)
+reaches-stepped steps old new wants can gives =
+    (gives.0, subst (IsStateOf old.case) (sym gives.1.state) (is_state-after old.case old.state (steps - old.time) can.state))
+
+-- a pattern that stands for where a run begins
+abbrev pub at_beginning : FlowCase → Beginning → Standing
+at_beginning case begin = record { case = case; time = begin.time; spent = None; state = begin.state }
+
+-- such a pattern reaches what the run reaches
+pub reaches-begun : (case : FlowCase) (steps : ℕ) (begin : Beginning) (now : Standing) (end : Result FlowState End) → now ≡ at_beginning case begin
+    → Reaches now.case steps (beginning_of now) end → Reaches case steps begin end
+reaches-begun case steps begin now end begins = subst (λ (now : Standing). Reaches now.case steps (beginning_of now) end) begins
+
+-- what the last state of such a pattern leaves is what the run leaves
+pub leaves-begun : (case : FlowCase) (steps : ℕ) (begin : Beginning) (now : Standing) (same : FlowCase) (step : ℕ) (s : FlowState) (left : Left) → now ≡ at_beginning case begin
+    → Reaches now.case steps (beginning_of now) (Ok s) → same ≡ now.case → step ≡ steps → LeavesOf same step s left → Leaves case steps begin left
+leaves-begun case steps begin now same step s left begins reaches same_is step_is leaves =
+    let reached_is : Reaches case steps begin (Ok s) = reaches-begun case steps begin now (Ok s) begins reaches in
+    let case_is : same ≡ case = same_is ∙ ap (λ (now : Standing). now.case) begins in
     record {
-      ends = ends ∙ ap (λ s. reached s) (sym leaves.state);
-      state = subst (IsStateOf case) (sym whole) (is_state-after case begin.state (steps - begin.time) can.state);
+      ends = reached_is.0 ∙ ap (λ s. reached s) (sym leaves.state);
+      state = subst (IsStateOf case) (sym leaves.state) reached_is.1;
       space = leaves.space ∙ ap (λ (c : FlowCase). c.torus) case_is;
-      moments = leaves.moments ∙ ap (λ c. printed_moments c new.state) case_is ∙ ap (printed_moments case) (sym leaves.state);
-      report = leaves.report ∙ ap (λ c. run_report c new.time new.state) case_is ∙ ap (λ t. run_report case t new.state) time_is
-          ∙ ap (run_report case steps) (sym leaves.state);
+      moments = leaves.moments ∙ ap (λ c. printed_moments c s) case_is ∙ ap (printed_moments case) (sym leaves.state);
+      report = leaves.report ∙ ap (λ c. run_report c step s) case_is ∙ ap (λ n. run_report case n s) step_is ∙ ap (run_report case steps) (sym leaves.state);
     }
 
 -- a run that has ended early
-pub finishes-early : (case : FlowCase) (steps : ℕ) (begin : Beginning) (old new : Standing) (wants : Bool) (end : RunEnd) → old ≡ at_beginning case begin
-    → RunGives wants old new steps (Err end) → Finishes case steps begin (Err (run_end end))
-finishes-early case steps begin old new wants (Range step cell) begins gives =
-    ap (λ (now : Standing). run now.case now.state now.time (steps - now.time)) (sym begins) ∙ gives.0
-finishes-early case steps begin old new wants Memory begins gives = tt
+pub finishes-early : (steps : ℕ) (old new : Standing) (wants : Bool) (end : RunEnd) → RunGives wants old new steps (Err end)
+    → Finishes old.case steps (beginning_of old) (Err (run_end end))
+finishes-early steps old new wants (Range step cell) gives = gives.0
+finishes-early steps old new wants Memory gives = tt

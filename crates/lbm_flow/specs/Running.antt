@@ -2,11 +2,13 @@
 use Rattle.std.specs.Prelude.{◌≡◌, ℕ, zero, suc, ◌+◌, ◌-◌, ◌<◌, Bool, IsTrue, Some, None, Result, Ok, Err}
 use Rattle.lbm_model.specs.Case.{FlowCase}
 use Rattle.lbm_model.specs.State.{FlowState}
-use Rattle.lbm_model.specs.Flow.{next, out_of_limits, run, reached, range}
+use Rattle.lbm_model.specs.Flow.{IsStateOf, next, out_of_limits, run, reached, range}
 use Rattle.lbm_model.specs.Standing.{Standing}
 use Rattle.lbm_model.specs.declared.pattern.StepEnd.{StepEnd}
 use Rattle.lbm_model.specs.declared.pattern.StepEnd.TheVariants as step_ends
-use Rattle.lbm_answer.specs.Outcome.{Beginning}
+use Rattle.lbm_answer.specs.declared.answer.End.{End}
+use Rattle.lbm_answer.specs.Outcome.{Beginning, run_from}
+use Rattle.lbm_answer.specs.Jobs.{Finishes}
 use Rattle.lbm_flow.specs.declared.run.RunEnd.{RunEnd}
 use Rattle.lbm_flow.specs.declared.run.RunEnd.TheVariants.{Range, Memory}
 
@@ -47,3 +49,8 @@ RunGives wants old new steps (Err Memory) = IsTrue wants × (n : ℕ) × Went ol
 -- where a run begins that a pattern goes on with
 abbrev pub beginning_of : Standing → Beginning
 beginning_of now = record { state = now.state; time = now.time }
+
+-- the state of the case that a run reaches from there, or why it has no end
+abbrev pub Reaches : FlowCase → ℕ → Beginning → Result FlowState End → Type 0
+Reaches case steps begin (Ok state) = (run_from case steps begin ≡ reached state) × IsStateOf case state
+Reaches case steps begin (Err end) = Finishes case steps begin (Err end)

@@ -1,19 +1,19 @@
 // The run of a case by a pattern, and what its last state leaves.
-ghost use Rattle.std.specs.Prelude.{◌≡◌, ◌≤◌, None};
+ghost use Rattle.std.specs.Prelude.{◌≡◌, ◌≤◌, None, IfOk};
 ghost use Rattle.lbm_space.specs.Torus.{rows as row_count};
 ghost use Rattle.lbm_space.specs.Cuttings.{rows_of};
 ghost use Rattle.lbm_model.specs.Limits.{most_steps};
 ghost use Rattle.lbm_rows.specs.Tiles.{IsDivision};
 ghost use Rattle.lbm_answer.specs.Jobs.{CanBegin, Finishes, beginning_view};
-ghost use Rattle.lbm_flow.specs.Running.{beginning_of};
+ghost use Rattle.lbm_flow.specs.Running.{beginning_of, Reaches};
 
 use crate::End;
 use crate::run::run_pattern;
 use lbm_aa::AaSteps;
-use lbm_answer::{Beginning, Left, conclude};
+use lbm_answer::{Beginning, Left, conclude, state_of};
 use lbm_grid::GridSweeps;
 use lbm_lattice::{ArrayLattice, Pattern, Propagation};
-use lbm_model::{Case, Gate, at_set};
+use lbm_model::{Case, Gate, State, at_set};
 use lbm_rows::{Division, Tiles};
 use lbm_space::{Cutting, VelocitySet};
 use lbm_swap::SwapPasses;
@@ -107,8 +107,11 @@ where
         steps,
     } = course;
     let Beginning { state, time } = begin;
-    let lattice = ArrayLattice::<V, A, P>::start(heap, case, &state, time, cut)?;
-    finish_from(rt, alloc, lattice, steps, gate)
+    let mut lattice = ArrayLattice::<V, A, P>::start(heap, case, &state, time, cut)?;
+    let last = last_state(rt, alloc, &mut lattice, steps, gate)?;
+    // All of the lattice but its case is given back before the moments are made.
+    let case = lattice.into_case();
+    Ok(conclude(rt, alloc, &case, u64::from(steps), last)?)
 }
 
 // The same by tiles, whose rows stand on the heap of what allocates.
@@ -133,24 +136,26 @@ fn finish_in_tiles<V: VelocitySet + Sync, G: Gate, R: Threads + Sync>(
     } = course;
     let Beginning { state, time } = begin;
     let Division { per_tile, workers } = division;
-    let lattice = Tiles::<V>::start(alloc, case, &state, time, per_tile, workers)?;
-    finish_from(rt, alloc, lattice, steps, gate)
+    let mut lattice = Tiles::<V>::start(alloc, case, &state, time, per_tile, workers)?;
+    let last = last_state(rt, alloc, &mut lattice, steps, gate)?;
+    let case = lattice.into_case();
+    Ok(conclude(rt, alloc, &case, u64::from(steps), last)?)
 }
 
-// Steps a lattice that stands for where a run begins.
-fn finish_from<G: Gate, P: Pattern<G> + Drop, R: Threads + Sync>(
+// The state at the last step, to which a lattice steps that stands for where a run begins.
+fn last_state<G: Gate, P: Pattern<G>, R: Threads + Sync>(
     rt: &R,
     alloc: Global,
-    lattice: P,
+    lattice: &mut P,
     steps: u32,
     gate: &G,
-) -> Result<Left, End>
+) -> Result<State, End>
     requires few { steps ≤ most_steps }
-    requires unspent { (P.standing lattice).spent ≡ None }
-    requires begin { CanBegin (P.standing lattice).case steps (beginning_of (P.standing lattice)) }
-    ensures { Finishes (P.standing lattice).case steps (beginning_of (P.standing lattice)) result }
+    requires unspent { (P.standing lattice.old).spent ≡ None }
+    requires begin { CanBegin (P.standing lattice.old).case steps (beginning_of (P.standing lattice.old)) }
+    ensures reaches { Reaches (P.standing lattice.old).case steps (beginning_of (P.standing lattice.old)) result }
+    ensures case { IfOk result (λ _. (P.standing lattice.new).case ≡ (P.standing lattice.old).case) }
 {
-    let mut lattice = lattice;
-    run_pattern(rt, &mut lattice, u64::from(steps), gate)?;
-    Ok(conclude::<P, R>(rt, alloc, &lattice)?)
+    run_pattern(rt, lattice, u64::from(steps), gate)?;
+    Ok(state_of::<P>(alloc, lattice)?)
 }

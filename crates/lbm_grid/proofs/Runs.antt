@@ -1,12 +1,12 @@
 -- What cells take is one run of the range where none of them is in the strip.
-use Rattle.std.proofs.Common.{◌≡◌, ◌⊎◌, ℕ, ◌+◌, ◌-◌, ◌<◌, ◌≤◌, Bool, true, false, List, [], ℤ, length, refl, sym, ap, subst, ◌∙◌, inl, inr, arith}
+use Rattle.std.proofs.Common.{◌≡◌, ◌⊎◌, ℕ, ◌+◌, ◌-◌, ◌<◌, ◌≤◌, Bool, true, false, ◌&&◌, nat_le, nat_lt, List, [], ℤ, length, refl, sym, ap, subst, ◌∙◌, inl, inr, arith}
 use Rattle.std.specs.Prelude.{slice_index_or}
-use Rattle.std.proofs.lemmas.Bool.{cases_lt}
+use Rattle.std.proofs.lemmas.Bool.{and_parts, leb-true, ltb-true, or_cases}
 use Rattle.lbm_arrays.specs.Lent.{Lent, first_slot, IsRun}
 use Rattle.lbm_cell.specs.Rows.{entry}
 use Rattle.lbm_sweep.specs.Held.{width, IsWithin}
 use Rattle.lbm_grid.specs.declared.reading.Reading.{Reading}
-use Rattle.lbm_grid.specs.Near.{read_place, reading_at, seen, AreBetween, AreThere, IsOutside, IsRead, IsThere}
+use Rattle.lbm_grid.specs.Near.{read_place, reading_at, seen, AreBetween, AreThere, is_outside, IsRead, IsThere}
 use Rattle.lbm_grid.proofs.Seen.{seen_off}
 
 -- places that follow are read from places that follow
@@ -22,13 +22,11 @@ pub all_off : (r : Reading) (at n : ℕ) → (at + n ≤ r.first) ⊎ (r.past �
 all_off r at n off j lane = elim off [ inl low ↦ inl (omega (arith, low, lane)) | inr high ↦ inr (omega (arith, high)) ]
 
 -- nor are those in any that are outside of all strips
-pub outside_off : (q least most : ℕ) (readings : List Reading) (k at n : ℕ) → AreBetween q least most readings → k < q → IsOutside least most at n → AreOff (reading_at readings k) at n
-outside_off q least most readings k at n strips known outside j lane = elim (cases_lt (at + j) (reading_at readings k).first) [
-  | inl low ↦ inl low
-  | inr from ↦ elim (cases_lt (at + j) (reading_at readings k).past) [
-    | inl high ↦ (let low = strips.low k known in let up = strips.high k known in absurd (outside (at + j) (omega arith) (omega (arith, lane)) (omega (arith, low, from)) (omega (arith, up, high))))
-    | inr past ↦ inr past
-  ]
+pub outside_off : (q least most : ℕ) (readings : List Reading) (k at n : ℕ) → AreBetween q least most readings → k < q → is_outside least most at n ≡ true → AreOff (reading_at readings k) at n
+outside_off q least most readings k at n strips known outside j lane = elim (or_cases (nat_le most at) (nat_lt at least && nat_le n (least - at)) outside) [
+  | inl past ↦ inr (let high = strips.high k known in let most_at = leb-true most at past in omega (arith, high, most_at))
+  | inr before ↦
+      inl (let low = strips.low k known in let both = and_parts (nat_lt at least) (nat_le n (least - at)) before in let left = leb-true n (least - at) both.1 in let begun = ltb-true at least both.0 in omega (arith, low, left, begun, lane))
 ]
 
 module _ (rises : Bool) (saved : List ℤ) (lent : Lent) (first k : ℕ) (r : Reading) (at n : ℕ) (is : IsRead rises (length saved) lent first k r at n) (some : 1 ≤ n) (off_at : AreOff r at n) where

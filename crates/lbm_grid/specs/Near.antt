@@ -3,7 +3,7 @@
 --     rises    whether the sweep rises
 --     saved    what the slabs have saved
 --     k        an array, and the direction whose populations it has
-use Rattle.std.specs.Prelude.{◌≡◌, ◌⊎◌, ℕ, ◌+◌, ◌-◌, ◌*◌, ◌<◌, ◌≤◌, nat_lt, if◌then◌else◌, Bool, true, false, List, [], length, ℤ, pos, ◌+ℤ◌, ◌-ℤ◌, unsigned_abs, slice_index, slice_index_or}
+use Rattle.std.specs.Prelude.{◌≡◌, ◌⊎◌, ℕ, ◌+◌, ◌-◌, ◌*◌, ◌<◌, ◌≤◌, nat_le, nat_lt, if◌then◌else◌, Bool, ◌&&◌, ◌||◌, true, false, List, [], length, ℤ, pos, ◌+ℤ◌, ◌-ℤ◌, unsigned_abs, slice_index, slice_index_or}
 use Rattle.lbm_space.specs.Stencil.{Stencil, IsVelocitySet, velocity}
 use Rattle.lbm_space.specs.Torus.{Torus, IsSpace, rows as row_count}
 use Rattle.lbm_space.specs.Padded.{offset, reach, row_start}
@@ -61,9 +61,9 @@ pub record AreBetween (q least most : ℕ) (readings : List Reading) : Type 0 wh
   pub low : (k : ℕ) → k < q → least ≤ (reading_at readings k).first
   pub high : (k : ℕ) → k < q → (reading_at readings k).past ≤ most
 
--- none of n places from `at` on lies there
-abbrev pub IsOutside : (least most at n : ℕ) → Type 0
-IsOutside least most at n = (p : ℕ) → at ≤ p → p < at + n → least ≤ p → p < most → ⊥
+-- whether none of n places from `at` on lies there
+abbrev pub is_outside : (least most at n : ℕ) → Bool
+is_outside least most at n = nat_le most at || nat_lt at least && nat_le n (least - at)
 
 -- slot `first` begins the range of array k, and what the cells of n places from `at` on take from it is there
 pub record IsRead (rises : Bool) (saved : ℕ) (lent : Lent) (first k : ℕ) (r : Reading) (at n : ℕ) : Type 0 where

@@ -7,12 +7,13 @@ ghost use Rattle.lbm_space.specs.Torus.{rows as row_count};
 ghost use Rattle.lbm_arrays.specs.Lent.{first_slot, Place};
 ghost use Rattle.lbm_sweep.specs.Held.{width, IsWithin};
 ghost use Rattle.lbm_sweep.specs.Slabs.{Ranges};
-ghost use Rattle.lbm_grid.specs.Near.{read_place, reading_at, reading_of, seen, taken_near, AreBetween, AreOwn, AreThere, IsNear, IsOutside, OwnBegin};
+ghost use Rattle.lbm_grid.specs.Near.{is_outside, read_place, reading_at, reading_of, seen, taken_near, AreBetween, AreOwn, AreThere, IsNear, OwnBegin};
 ghost use Rattle.lbm_grid.specs.NearLaws.{seen_pending, seen_still};
 
 use crate::reading::{Reading, bounds, is_outside, lanes_near, place_near, reading_for};
 use crate::way::Way;
 use lbm_arrays::Loan;
+use lbm_cell::MAX_Q;
 use lbm_space::{Space, VelocitySet};
 use lbm_sweep::{SlabCall, Slots, Source, Taking, collide_taking, first_slots};
 use lbm_walk::Kernel;
@@ -61,7 +62,7 @@ impl<V: VelocitySet, W: Way> Source<V> for Near<V, W> {
 
 impl<V: VelocitySet, W: Way> Near<V, W> {
     // How a slab of these rows reads the array of each direction.
-    fn readings(&self, saved: &[i64], begins: &[u32], rows: (u32, u32)) -> [Reading; 27]
+    fn readings(&self, saved: &[i64], begins: &[u32], rows: (u32, u32)) -> [Reading; MAX_Q]
         requires near { (ranges : Ranges) × IsNear self.now.space V.stencil begins.now self.now.width (length saved.now) rows ranges }
         ensures { (i : ℕ) → i < V.stencil.directions → reading_at result i ≡ reading_of self.now.space V.stencil W.RISES begins.now self.now.width rows i }
     {
@@ -72,7 +73,7 @@ impl<V: VelocitySet, W: Way> Near<V, W> {
             at: 0,
             far: 0,
         };
-        let mut readings = [none; 27];
+        let mut readings = [none; MAX_Q];
         for k in 0..V::Q {
             readings[k] = reading_for::<V, W>(&self.space, begins, self.width, rows, k);
         }
@@ -85,7 +86,7 @@ impl<V: VelocitySet, W: Way> Near<V, W> {
 struct PlacesNear<'s, W: Way> {
     way: PhantomData<W>,
     saved: &'s [i64],
-    readings: [Reading; 27],
+    readings: [Reading; MAX_Q],
     // all strips lie from the place `least` up to, not including, `most`
     least: u32,
     most: u32,
@@ -102,9 +103,7 @@ impl<V: VelocitySet, W: Way> Taking<V> for PlacesNear<'_, W> {
 
     ghost taken = { λ w lent i p. seen W.RISES w.saved.now lent.ranges i (reading_at w.readings i) p };
 
-    ghost clear = { λ w at. IsOutside w.least w.most at 8 };
-
-    ghost clear_once = { λ w at. Prim.hlevel props };
+    ghost clear = { λ w at. is_outside w.least w.most at 8 };
 
     #[inline(always)]
     fn rises() -> bool
@@ -125,7 +124,7 @@ impl<V: VelocitySet, W: Way> Taking<V> for PlacesNear<'_, W> {
     #[inline(always)]
     fn take_clear(&self, loan: &Loan<'_>, dir: usize, at: u32) -> [i64; 8] {
         let place = place_near::<W>(at, self.readings[dir].far);
-        loan.load_at(self.to[dir], place, 8)
+        loan.load_block(self.to[dir], place)
     }
 
     ghost still_fits = { λ w writes a b from to but fit. (fit.0, λ i known. fit.1 i known ∙ ap (λ (p : Place). first_slot p i) (sym but.place), subst (λ (len : ℕ). AreThere W.RISES V.stencil.directions (length w.saved.now) len w.readings) (sym but.wide) fit.2, fit.3) };

@@ -2,7 +2,7 @@
 
 ghost use Rattle.std.specs.Prelude.{◌≡◌, ℕ, ◌+◌, ◌*◌, ◌<◌, ◌≤◌, ◌^◌, true, false, length, pos, ◌+ℤ◌, ◌-ℤ◌, ◌≤ℤ◌, ◌<ℤ◌, slice_index, slice_index_or, unsigned_abs};
 ghost use Rattle.lbm_space.specs.Torus.{rows as row_count};
-ghost use Rattle.lbm_grid.specs.Near.{read_place, reading_of, seen, AreBetween, IsOutside, IsRead};
+ghost use Rattle.lbm_grid.specs.Near.{is_outside, read_place, reading_of, seen, AreBetween, IsRead};
 
 use crate::strips::{copy_run, strip};
 use crate::way::Way;
@@ -90,7 +90,7 @@ pub(crate) fn bounds<V: VelocitySet>(readings: &[Reading]) -> (u32, u32)
 /// Whether none of the eight places from `at` on is one of those from `least` up to, not including, `most`.
 #[inline(always)]
 pub(crate) fn is_outside(least: u32, most: u32, at: u32) -> bool
-    ensures { result ≡ true → IsOutside least most at 8 }
+    ensures { result ≡ is_outside least most at 8 }
 {
     most <= at || at < least && least - at >= 8
 }
@@ -170,5 +170,5 @@ pub(crate) fn place_near<W: Way>(place: u32, far: u32) -> u32
     requires high { read_place W.RISES far place < 2 ^ 32 }
     ensures { result ≡ read_place W.RISES far place }
 {
-    if W::rises() { place + far } else { place - far }
+    W::place_behind(place, far)
 }

@@ -1,6 +1,7 @@
 //! Full-way bounce-back over rows by direction.
 
 ghost use Rattle.std.specs.Prelude.{◌≡◌, ◌<◌, ◌≤◌, ◌+◌, ℕ, ℤ};
+ghost use Rattle.lbm_space.specs.Limits.{most_directions};
 ghost use Rattle.lbm_space.specs.Stencil.{opposite};
 ghost use Rattle.lbm_cell.specs.Collision.{reflection};
 ghost use Rattle.lbm_walk.specs.Turns.{IsUnderway};
@@ -11,7 +12,7 @@ use lbm_walk::Rows;
 // The pair whose lesser direction is `i` changes places.
 #[inline(always)]
 fn bounce_pair<V: VelocitySet, R: Rows<V>>(rows: &mut R, i: usize)
-    requires { i < 27 }
+    requires { i < most_directions }
     ensures underway { (h : ℕ → ℕ → ℤ) → IsUnderway V.stencil (R.count rows.old) i (λ j. reflection V.stencil (h j)) h (R.there rows.old) (R.sent rows.old) → IsUnderway V.stencil (R.count rows.new) (i + 1) (λ j. reflection V.stencil (h j)) h (R.there rows.new) (R.sent rows.new) }
     ensures count { R.count rows.new ≡ R.count rows.old }
     ensures kept { R.kept rows.old rows.new }
@@ -32,7 +33,7 @@ fn bounce_pair<V: VelocitySet, R: Rows<V>>(rows: &mut R, i: usize)
 // The pairs whose lesser directions are nine.
 #[inline(always)]
 fn bounce_nine<V: VelocitySet, R: Rows<V>, const I0: usize>(rows: &mut R)
-    requires { I0 + 9 ≤ 27 }
+    requires { I0 + 9 ≤ most_directions }
     ensures underway { (h : ℕ → ℕ → ℤ) → IsUnderway V.stencil (R.count rows.old) I0 (λ j. reflection V.stencil (h j)) h (R.there rows.old) (R.sent rows.old) → IsUnderway V.stencil (R.count rows.new) (I0 + 9) (λ j. reflection V.stencil (h j)) h (R.there rows.new) (R.sent rows.new) }
     ensures count { R.count rows.new ≡ R.count rows.old }
     ensures kept { R.kept rows.old rows.new }

@@ -2,6 +2,7 @@
 
 ghost use Rattle.std.specs.Prelude.{◌≡◌, ◌≢◌, ◌<◌, ◌≤◌, ◌+◌, ◌*◌, ℕ, ℤ, pos, ◌*ℤ◌, ◌-ℤ◌, Bool, true, false, ◌&&◌, not, Option, Some, None, FitsSigned, slice_index, nat_lt, unsigned_abs};
 ghost use Rattle.std.specs.Int.{w32};
+ghost use Rattle.lbm_space.specs.Limits.{most_directions};
 ghost use Rattle.lbm_cell.specs.Moments.{in_limits};
 ghost use Rattle.lbm_cell.specs.Collision.{collision};
 ghost use Rattle.lbm_lanes.specs.Cells.{is_on, after, settled};
@@ -27,7 +28,7 @@ fn pair<V: VelocitySet, R: Rows<V>, const MIXED: bool, const ONE: bool>(
     total: [i64; 8],
     i: usize,
 ) -> [i64; 8]
-    requires few { i < 27 }
+    requires few { i < most_directions }
     requires run { IsRun V.stencil ONE run.now.rates run.now.force run.now.divisor.d run.now.divisor.shift run.now.divisor.reciprocal }
     requires progress { (h : ℕ → ℕ → ℤ) × AreCells V.stencil MIXED fluid.now.flags.colliding fluid.now.cells.rho fluid.now.cells.reciprocal fluid.now.cells.base fluid.now.x fluid.now.y fluid.now.z h × IsProgress V.stencil (R.count rows.old) i (after V.stencil run.now.rates run.now.force MIXED fluid.now.flags.colliding fluid.now.flags.turning h) h (R.there rows.old) (R.sent rows.old) total }
     ensures progress { (h : ℕ → ℕ → ℤ) → AreCells V.stencil MIXED fluid.now.flags.colliding fluid.now.cells.rho fluid.now.cells.reciprocal fluid.now.cells.base fluid.now.x fluid.now.y fluid.now.z h → IsProgress V.stencil (R.count rows.old) i (after V.stencil run.now.rates run.now.force MIXED fluid.now.flags.colliding fluid.now.flags.turning h) h (R.there rows.old) (R.sent rows.old) total → IsProgress V.stencil (R.count rows.new) (i + 1) (after V.stencil run.now.rates run.now.force MIXED fluid.now.flags.colliding fluid.now.flags.turning h) h (R.there rows.new) (R.sent rows.new) result }
@@ -59,7 +60,7 @@ fn nine_pairs<V: VelocitySet, R: Rows<V>, const MIXED: bool, const ONE: bool, co
     run: &Run,
     total: [i64; 8],
 ) -> [i64; 8]
-    requires few { I0 + 9 ≤ 27 }
+    requires few { I0 + 9 ≤ most_directions }
     requires run { IsRun V.stencil ONE run.now.rates run.now.force run.now.divisor.d run.now.divisor.shift run.now.divisor.reciprocal }
     requires progress { (h : ℕ → ℕ → ℤ) × AreCells V.stencil MIXED fluid.now.flags.colliding fluid.now.cells.rho fluid.now.cells.reciprocal fluid.now.cells.base fluid.now.x fluid.now.y fluid.now.z h × IsProgress V.stencil (R.count rows.old) I0 (after V.stencil run.now.rates run.now.force MIXED fluid.now.flags.colliding fluid.now.flags.turning h) h (R.there rows.old) (R.sent rows.old) total }
     ensures progress { (h : ℕ → ℕ → ℤ) → AreCells V.stencil MIXED fluid.now.flags.colliding fluid.now.cells.rho fluid.now.cells.reciprocal fluid.now.cells.base fluid.now.x fluid.now.y fluid.now.z h → IsProgress V.stencil (R.count rows.old) I0 (after V.stencil run.now.rates run.now.force MIXED fluid.now.flags.colliding fluid.now.flags.turning h) h (R.there rows.old) (R.sent rows.old) total → IsProgress V.stencil (R.count rows.new) (I0 + 9) (after V.stencil run.now.rates run.now.force MIXED fluid.now.flags.colliding fluid.now.flags.turning h) h (R.there rows.new) (R.sent rows.new) result }
@@ -86,8 +87,8 @@ fn rest<V: VelocitySet, R: Rows<V>, const MIXED: bool, const ONE: bool>(
     total: [i64; 8],
 )
     requires run { IsRun V.stencil ONE run.now.rates run.now.force run.now.divisor.d run.now.divisor.shift run.now.divisor.reciprocal }
-    requires progress { (h : ℕ → ℕ → ℤ) × AreCells V.stencil MIXED fluid.now.flags.colliding fluid.now.cells.rho fluid.now.cells.reciprocal fluid.now.cells.base fluid.now.x fluid.now.y fluid.now.z h × IsProgress V.stencil (R.count rows.old) 27 (after V.stencil run.now.rates run.now.force MIXED fluid.now.flags.colliding fluid.now.flags.turning h) h (R.there rows.old) (R.sent rows.old) total }
-    ensures sent { (h : ℕ → ℕ → ℤ) → AreCells V.stencil MIXED fluid.now.flags.colliding fluid.now.cells.rho fluid.now.cells.reciprocal fluid.now.cells.base fluid.now.x fluid.now.y fluid.now.z h → IsProgress V.stencil (R.count rows.old) 27 (after V.stencil run.now.rates run.now.force MIXED fluid.now.flags.colliding fluid.now.flags.turning h) h (R.there rows.old) (R.sent rows.old) total → (k j : ℕ) → k < V.stencil.directions → j < R.count rows.old → R.sent rows.new k j ≡ after V.stencil run.now.rates run.now.force MIXED fluid.now.flags.colliding fluid.now.flags.turning h j k }
+    requires progress { (h : ℕ → ℕ → ℤ) × AreCells V.stencil MIXED fluid.now.flags.colliding fluid.now.cells.rho fluid.now.cells.reciprocal fluid.now.cells.base fluid.now.x fluid.now.y fluid.now.z h × IsProgress V.stencil (R.count rows.old) most_directions (after V.stencil run.now.rates run.now.force MIXED fluid.now.flags.colliding fluid.now.flags.turning h) h (R.there rows.old) (R.sent rows.old) total }
+    ensures sent { (h : ℕ → ℕ → ℤ) → AreCells V.stencil MIXED fluid.now.flags.colliding fluid.now.cells.rho fluid.now.cells.reciprocal fluid.now.cells.base fluid.now.x fluid.now.y fluid.now.z h → IsProgress V.stencil (R.count rows.old) most_directions (after V.stencil run.now.rates run.now.force MIXED fluid.now.flags.colliding fluid.now.flags.turning h) h (R.there rows.old) (R.sent rows.old) total → (k j : ℕ) → k < V.stencil.directions → j < R.count rows.old → R.sent rows.new k j ≡ after V.stencil run.now.rates run.now.force MIXED fluid.now.flags.colliding fluid.now.flags.turning h j k }
     ensures count { R.count rows.new ≡ R.count rows.old }
     ensures kept { R.kept rows.old rows.new }
 {
@@ -128,7 +129,7 @@ fn collide_sums<V: VelocitySet, R: Rows<V>, const MIXED: bool, const ONE: bool>(
 )
     requires fits { (k j : ℕ) → k < V.stencil.directions → j < 8 → FitsSigned w32 (held (R.count rows.old) (R.there rows.old) j k) }
     requires run { IsRun V.stencil ONE run.now.rates run.now.force run.now.divisor.d run.now.divisor.shift run.now.divisor.reciprocal }
-    requires sums { (l : ℕ) → l < 8 → IsSummed V.stencil 27 (held (R.count rows.old) (R.there rows.old) l) (entry sums.now.rho l) (entry sums.now.x l) (entry sums.now.y l) (entry sums.now.z l) (entry sums.now.signs l) }
+    requires sums { (l : ℕ) → l < 8 → IsSummed V.stencil most_directions (held (R.count rows.old) (R.there rows.old) l) (entry sums.now.rho l) (entry sums.now.x l) (entry sums.now.y l) (entry sums.now.z l) (entry sums.now.signs l) }
     requires within { (l : ℕ) → l < 8 → is_on MIXED (slice_index flags.colliding l) ≡ true → in_limits V.stencil (held (R.count rows.old) (R.there rows.old) l) ≡ true }
     ensures sent { (k j : ℕ) → k < V.stencil.directions → j < R.count rows.old → R.sent rows.new k j ≡ after V.stencil run.now.rates run.now.force MIXED flags.colliding flags.turning (held (R.count rows.old) (R.there rows.old)) j k }
     ensures count { R.count rows.new ≡ R.count rows.old }
@@ -143,7 +144,7 @@ fn collide_sums<V: VelocitySet, R: Rows<V>, const MIXED: bool, const ONE: bool>(
 fn collide_whole<V: VelocitySet, R: Rows<V>, const ONE: bool>(rows: &mut R, sums: &Sums, run: &Run)
     requires fits { (k j : ℕ) → k < V.stencil.directions → j < 8 → FitsSigned w32 (held (R.count rows.old) (R.there rows.old) j k) }
     requires run { IsRun V.stencil ONE run.now.rates run.now.force run.now.divisor.d run.now.divisor.shift run.now.divisor.reciprocal }
-    requires sums { (l : ℕ) → l < 8 → IsSummed V.stencil 27 (held (R.count rows.old) (R.there rows.old) l) (entry sums.now.rho l) (entry sums.now.x l) (entry sums.now.y l) (entry sums.now.z l) (entry sums.now.signs l) }
+    requires sums { (l : ℕ) → l < 8 → IsSummed V.stencil most_directions (held (R.count rows.old) (R.there rows.old) l) (entry sums.now.rho l) (entry sums.now.x l) (entry sums.now.y l) (entry sums.now.z l) (entry sums.now.signs l) }
     requires within { (l : ℕ) → l < 8 → in_limits V.stencil (held (R.count rows.old) (R.there rows.old) l) ≡ true }
     ensures sent { (k j : ℕ) → k < V.stencil.directions → j < R.count rows.old → R.sent rows.new k j ≡ collision V.stencil run.now.rates run.now.force (held (R.count rows.old) (R.there rows.old) j) k }
     ensures count { R.count rows.new ≡ R.count rows.old }
@@ -166,7 +167,7 @@ fn collide_mixed<V: VelocitySet, R: Rows<V>, const ONE: bool>(
 )
     requires fits { (k j : ℕ) → k < V.stencil.directions → j < 8 → FitsSigned w32 (held (R.count rows.old) (R.there rows.old) j k) }
     requires run { IsRun V.stencil ONE run.now.rates run.now.force run.now.divisor.d run.now.divisor.shift run.now.divisor.reciprocal }
-    requires sums { (l : ℕ) → l < 8 → IsSummed V.stencil 27 (held (R.count rows.old) (R.there rows.old) l) (entry sums.now.rho l) (entry sums.now.x l) (entry sums.now.y l) (entry sums.now.z l) (entry sums.now.signs l) }
+    requires sums { (l : ℕ) → l < 8 → IsSummed V.stencil most_directions (held (R.count rows.old) (R.there rows.old) l) (entry sums.now.rho l) (entry sums.now.x l) (entry sums.now.y l) (entry sums.now.z l) (entry sums.now.signs l) }
     requires within { (l : ℕ) → l < 8 → has chosen l ≡ true → in_limits V.stencil (held (R.count rows.old) (R.there rows.old) l) ≡ true }
     ensures sent { (k j : ℕ) → k < V.stencil.directions → j < R.count rows.old → R.sent rows.new k j ≡ settled V.stencil run.now.rates run.now.force (has chosen j) (has solid j) (held (R.count rows.old) (R.there rows.old) j) k }
     ensures count { R.count rows.new ≡ R.count rows.old }
@@ -208,7 +209,7 @@ fn least(fluid: u8, out: u8) -> Option<u32>
 // The lanes out of limits, of which the sums are known.
 #[inline(always)]
 fn out_of_limits<V: VelocitySet, R: Rows<V>>(rows: &R, sums: &Sums) -> u8
-    requires { (l : ℕ) → l < 8 → IsSummed V.stencil 27 (held (R.count rows.now) (R.there rows.now) l) (entry sums.now.rho l) (entry sums.now.x l) (entry sums.now.y l) (entry sums.now.z l) (entry sums.now.signs l) }
+    requires { (l : ℕ) → l < 8 → IsSummed V.stencil most_directions (held (R.count rows.now) (R.there rows.now) l) (entry sums.now.rho l) (entry sums.now.x l) (entry sums.now.y l) (entry sums.now.z l) (entry sums.now.signs l) }
     ensures { (l : ℕ) → l < 8 → has result l ≡ not (in_limits V.stencil (held (R.count rows.now) (R.there rows.now) l)) }
 {
     sums.out_of_limits()
@@ -236,7 +237,7 @@ fn collide_lanes<V: VelocitySet, R: Rows<V>, const ONE: bool>(
     requires fits { (i j : ℕ) → i < V.stencil.directions → j < 8 → FitsSigned w32 (held (R.count rows.old) (R.there rows.old) j i) }
     requires apart { (j : ℕ) → j < 8 → has fluid j ≡ true → has solid j ≡ false }
     requires run { IsRun V.stencil ONE run.now.rates run.now.force run.now.divisor.d run.now.divisor.shift run.now.divisor.reciprocal }
-    requires sums { (l : ℕ) → l < 8 → IsSummed V.stencil 27 (held (R.count rows.old) (R.there rows.old) l) (entry sums.now.rho l) (entry sums.now.x l) (entry sums.now.y l) (entry sums.now.z l) (entry sums.now.signs l) }
+    requires sums { (l : ℕ) → l < 8 → IsSummed V.stencil most_directions (held (R.count rows.old) (R.there rows.old) l) (entry sums.now.rho l) (entry sums.now.x l) (entry sums.now.y l) (entry sums.now.z l) (entry sums.now.signs l) }
     requires out { (l : ℕ) → l < 8 → has out l ≡ not (in_limits V.stencil (held (R.count rows.old) (R.there rows.old) l)) }
     ensures post { (i j : ℕ) → i < V.stencil.directions → j < R.count rows.old → R.sent rows.new i j ≡ becomes V.stencil run.now.rates run.now.force (has fluid j) (has solid j) (held (R.count rows.old) (R.there rows.old) j) i }
     ensures count { R.count rows.new ≡ R.count rows.old }
@@ -265,7 +266,7 @@ fn collide_known<V: VelocitySet, R: Rows<V>>(
     requires fits { (i j : ℕ) → i < V.stencil.directions → j < 8 → FitsSigned w32 (held (R.count rows.old) (R.there rows.old) j i) }
     requires apart { (j : ℕ) → j < 8 → has fluid j ≡ true → has solid j ≡ false }
     requires run { IsRun V.stencil one run.now.rates run.now.force run.now.divisor.d run.now.divisor.shift run.now.divisor.reciprocal }
-    requires sums { (l : ℕ) → l < 8 → IsSummed V.stencil 27 (held (R.count rows.old) (R.there rows.old) l) (entry sums.now.rho l) (entry sums.now.x l) (entry sums.now.y l) (entry sums.now.z l) (entry sums.now.signs l) }
+    requires sums { (l : ℕ) → l < 8 → IsSummed V.stencil most_directions (held (R.count rows.old) (R.there rows.old) l) (entry sums.now.rho l) (entry sums.now.x l) (entry sums.now.y l) (entry sums.now.z l) (entry sums.now.signs l) }
     requires out { (l : ℕ) → l < 8 → has out l ≡ not (in_limits V.stencil (held (R.count rows.old) (R.there rows.old) l)) }
     ensures post { (i j : ℕ) → i < V.stencil.directions → j < R.count rows.old → R.sent rows.new i j ≡ becomes V.stencil run.now.rates run.now.force (has fluid j) (has solid j) (held (R.count rows.old) (R.there rows.old) j) i }
     ensures count { R.count rows.new ≡ R.count rows.old }

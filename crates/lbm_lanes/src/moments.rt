@@ -2,6 +2,7 @@
 
 ghost use Rattle.std.specs.Prelude.{◌≡◌, ◌<◌, ◌≤◌, ◌+◌, ◌*◌, ◌^◌, ℕ, ℤ, pos, ◌+ℤ◌, ◌*ℤ◌, unsigned_abs, int_le, ◌&&◌, not, FitsSigned};
 ghost use Rattle.std.specs.Int.{w32, w64};
+ghost use Rattle.lbm_space.specs.Limits.{most_directions};
 ghost use Rattle.lbm_lanes.specs.Lanes.{entry, has, held};
 ghost use Rattle.lbm_lanes.specs.Sums.{IsSummed};
 
@@ -40,7 +41,7 @@ fn with(totals: [i64; 8], c: i64, f: [i64; 8]) -> [i64; 8]
 // The sums with direction `i`.
 #[inline(always)]
 fn add<V: VelocitySet, R: Rows<V>>(rows: &R, sums: Sums, i: usize) -> Sums
-    requires few { i < 27 }
+    requires few { i < most_directions }
     requires fits { (k j : ℕ) → k < V.stencil.directions → j < 8 → FitsSigned w32 (held (R.count rows.now) (R.there rows.now) j k) }
     requires sums { (l : ℕ) → l < 8 → IsSummed V.stencil i (held (R.count rows.now) (R.there rows.now) l) (entry sums.rho l) (entry sums.x l) (entry sums.y l) (entry sums.z l) (entry sums.signs l) }
     ensures { (l : ℕ) → l < 8 → IsSummed V.stencil (i + 1) (held (R.count rows.now) (R.there rows.now) l) (entry result.rho l) (entry result.x l) (entry result.y l) (entry result.z l) (entry result.signs l) }
@@ -62,7 +63,7 @@ fn add<V: VelocitySet, R: Rows<V>>(rows: &R, sums: Sums, i: usize) -> Sums
 // The sums with nine directions more.
 #[inline(always)]
 fn add_nine<V: VelocitySet, R: Rows<V>, const I0: usize>(rows: &R, sums: Sums) -> Sums
-    requires few { I0 + 9 ≤ 27 }
+    requires few { I0 + 9 ≤ most_directions }
     requires fits { (k j : ℕ) → k < V.stencil.directions → j < 8 → FitsSigned w32 (held (R.count rows.now) (R.there rows.now) j k) }
     requires sums { (l : ℕ) → l < 8 → IsSummed V.stencil I0 (held (R.count rows.now) (R.there rows.now) l) (entry sums.rho l) (entry sums.x l) (entry sums.y l) (entry sums.z l) (entry sums.signs l) }
     ensures { (l : ℕ) → l < 8 → IsSummed V.stencil (I0 + 9) (held (R.count rows.now) (R.there rows.now) l) (entry result.rho l) (entry result.x l) (entry result.y l) (entry result.z l) (entry result.signs l) }
@@ -97,7 +98,7 @@ impl Sums {
     #[inline(always)]
     pub(crate) fn of<V: VelocitySet, R: Rows<V>>(rows: &R) -> Sums
         requires fits { (k j : ℕ) → k < V.stencil.directions → j < 8 → FitsSigned w32 (held (R.count rows.now) (R.there rows.now) j k) }
-        ensures { (l : ℕ) → l < 8 → IsSummed V.stencil 27 (held (R.count rows.now) (R.there rows.now) l) (entry result.rho l) (entry result.x l) (entry result.y l) (entry result.z l) (entry result.signs l) }
+        ensures { (l : ℕ) → l < 8 → IsSummed V.stencil most_directions (held (R.count rows.now) (R.there rows.now) l) (entry result.rho l) (entry result.x l) (entry result.y l) (entry result.z l) (entry result.signs l) }
     {
         let sums = add_nine::<V, R, 0>(rows, Sums::none::<V>());
         let sums = add_nine::<V, R, 9>(rows, sums);

@@ -1,6 +1,7 @@
 //! A kept row.
 
 ghost use Rattle.std.specs.Prelude.{◌≡◌, ℕ, ◌+◌, ◌*◌, ◌<◌, ◌≤◌, [], length, pos, take, slice_index_or};
+ghost use Rattle.lbm_space.specs.Limits.{most_directions};
 ghost use Rattle.lbm_space.specs.Torus.{rows as row_count};
 ghost use Rattle.lbm_cell.specs.Rows.{entry};
 ghost use Rattle.lbm_arrays.specs.Ranges.{over, with_run};
@@ -119,7 +120,7 @@ pub(crate) fn slot_in(kept: &[KeptRow], row: usize, slot: usize) -> i64
 
 /// The number of the kept row of array k for a row of cells, among all of them.
 pub(crate) fn row_number(space: &Space, k: usize, row: u32) -> usize
-    requires array { k < 27 }
+    requires array { k < most_directions }
     requires row { row < row_count space.now }
     ensures { result ≡ k * row_count space.now + row }
 {

@@ -76,6 +76,13 @@ impl<V: VelocitySet> Tiles<V> {
         })
     }
 
+    /// The case. All else is given back.
+    pub fn into_case(self) -> Case
+        ensures { result ≡ self.case }
+    {
+        self.case
+    }
+
     /// The kept row of array `dir` for a row of cells, of `2 + nx` slots: a population stands where the layout of the
     /// pattern that works in place says, the cell at x having slot `1 + x`.
     pub fn row(&self, dir: u32, row: u32) -> &[i64]

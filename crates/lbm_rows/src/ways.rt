@@ -4,6 +4,7 @@ ghost use Rattle.std.specs.Prelude.{◌≡◌, ℕ, ◌*◌, ◌<◌, ◌≤◌,
 ghost use Rattle.lbm_space.specs.Stencil.{opposite, part, velocity};
 ghost use Rattle.lbm_rows.specs.TileRows.{AreWays};
 
+use lbm_cell::MAX_Q;
 use lbm_space::VelocitySet;
 use lbm_sweep::Slots;
 
@@ -41,8 +42,8 @@ fn sides<V: VelocitySet>(turned: bool, even: bool, height: usize) -> (Slots, Slo
     ensures rows { (i : ℕ) → i < V.stencil.directions → slice_index result.0 i ≡ (if turned then opposite V.stencil i else i) * height }
     ensures slots { (i : ℕ) → i < V.stencil.directions → slice_index result.1 i ≡ (if even then 1 else unsigned_abs (pos 1 +ℤ part (velocity V.stencil (if turned then opposite V.stencil i else i)) 0)) }
 {
-    let mut rows = [0; 27];
-    let mut slots = [0; 27];
+    let mut rows = [0; MAX_Q];
+    let mut slots = [0; MAX_Q];
     for i in 0..V::Q {
         let array = array_of::<V>(turned, i);
         rows[i] = array * height;

@@ -5,6 +5,7 @@ ghost use Rattle.lbm_space.specs.Torus.{cells, padded, rows};
 ghost use Rattle.lbm_model.specs.Layout.{array_of, place_of};
 ghost use Rattle.lbm_sweep.specs.CellRows.{cell_at, IsRow};
 
+use lbm_cell::MAX_Q;
 use lbm_model::{Case, Layout};
 use lbm_space::VelocitySet;
 
@@ -16,8 +17,8 @@ pub(crate) struct CellRow<'a> {
     pub(crate) layout: Layout,
     pub(crate) number: u32,
     pub(crate) width: u32,
-    firsts: [u32; 27],
-    aheads: [u32; 27],
+    firsts: [u32; MAX_Q],
+    aheads: [u32; MAX_Q],
 }
 
 impl<'a> CellRow<'a> {
@@ -32,7 +33,7 @@ impl<'a> CellRow<'a> {
         ensures layout { result.layout ≡ layout }
         ensures number { result.number ≡ number }
     {
-        let (mut firsts, mut aheads) = ([0; 27], [0; 27]);
+        let (mut firsts, mut aheads) = ([0; MAX_Q], [0; MAX_Q]);
         for i in 0..V::Q {
             let (first, ahead) = layout.row::<V>(case, number, i as u32);
             firsts[i] = first;

@@ -60,10 +60,6 @@ impl<V: VelocitySet> Taking<V> for OwnPlaces<'_> {
 
     ghost taken = { λ w lent i p. entry lent.ranges (slice_index w.reads.now i) p };
 
-    ghost clear = { λ w at. Unit {0} };
-
-    ghost clear_once = { λ w at. Prim.hlevel props };
-
     #[inline(always)]
     fn rises() -> bool
         ensures { result ≡ true }
@@ -83,7 +79,7 @@ impl<V: VelocitySet> Taking<V> for OwnPlaces<'_> {
 
     #[inline(always)]
     fn take_clear(&self, loan: &Loan<'_>, dir: usize, at: u32) -> [i64; 8] {
-        loan.load_at(self.from[dir], at, 8)
+        loan.load_block(self.from[dir], at)
     }
 
     ghost still_fits = { λ w writes a b from to but fit. (fit.0, λ i known. fit.1 i known ∙ ap (λ (p : Place). first_slot p (slice_index w.reads.now i)) (sym but.place)) };

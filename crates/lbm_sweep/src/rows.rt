@@ -1,6 +1,6 @@
 //! The rows of a slab's cells, which stand in the ranges of its loan.
 
-ghost use Rattle.std.specs.Prelude.{◌≡◌, ◌+◌, ◌*◌, ◌<◌, ◌≤◌, ℕ, ℤ, List, None, Some, slice_index, refl};
+ghost use Rattle.std.specs.Prelude.{◌≡◌, ◌+◌, ◌*◌, ◌<◌, ◌≤◌, ℕ, ℤ, List, None, Some, true, slice_index, refl};
 ghost use Rattle.std.proofs.Common.{◌∙◌, ap};
 ghost use Rattle.lbm_space.specs.Limits.{most_directions};
 ghost use Rattle.lbm_space.specs.Torus.{IsSpace, cells};
@@ -183,7 +183,7 @@ struct ClearRows<'t, 'l, 'b, 'w, 'o, V: VelocitySet, T: Taking<V>> {
     ghost table: { IsTable V.stencil.directions writes.now },
     ghost begins: { BeginAt V.stencil.directions loan.now.place writes.now to.now },
     ghost fitting: { T.fits taking.now writes.now loan.now } by { T.fits_once taking.now writes.now loan.now },
-    ghost clear: { T.clear taking.now at } by { T.clear_once taking.now at },
+    ghost clear: { T.clear taking.now at ≡ true },
 }
 
 impl<V: VelocitySet, T: Taking<V>> Rows<V> for ClearRows<'_, '_, '_, '_, '_, V, T> {
@@ -207,12 +207,12 @@ impl<V: VelocitySet, T: Taking<V>> Rows<V> for ClearRows<'_, '_, '_, '_, '_, V, 
 
     #[inline(always)]
     fn sent(&self, dir: usize) -> [i64; 8] {
-        self.loan.load_at(self.to[dir], self.at, 8)
+        self.loan.load_block(self.to[dir], self.at)
     }
 
     #[inline(always)]
     fn put(&mut self, dir: usize, lanes: [i64; 8]) {
-        self.loan.store_at(self.to[dir], self.at, 8, lanes);
+        self.loan.store_block(self.to[dir], self.at, lanes);
     }
 
     ghost kept_same = { λ r. (refl, refl, refl, refl, same_but r.at (r.at + 8) r.loan.now) };
@@ -235,7 +235,7 @@ fn collide_clear<V: VelocitySet, K: Kernel<V>, T: Taking<V>>(
     requires table { IsTable V.stencil.directions writes.now }
     requires begins { BeginAt V.stencil.directions loan.old.place writes.now to.now }
     requires fitting { T.fits taking.now writes.now loan.old }
-    requires clear { T.clear taking.now at }
+    requires clear { T.clear taking.now at ≡ true }
     requires known { cell + 8 ≤ K.cells kernel.now }
     requires small { (i j : ℕ) → i < V.stencil.directions → j < 8 → K.small kernel.now (cell + j) (T.taken taking.now loan.old i (at + j)) }
     ensures first { (f : ℕ → ℕ → ℤ) → AreTaken V.stencil.directions 8 f (λ i j. T.taken taking.now loan.old i (at + j)) → IsFirst (λ j. K.sound kernel.now (cell + j) (f j)) 0 8 result }

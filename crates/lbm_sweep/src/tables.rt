@@ -5,10 +5,11 @@ ghost use Rattle.lbm_space.specs.Stencil.{opposite};
 ghost use Rattle.lbm_sweep.specs.Blocks.{IsTable};
 
 use arrayvec::ArrayVec;
+use lbm_cell::MAX_Q;
 use lbm_space::VelocitySet;
 
 /// For each direction of a set the number of an array.
-pub type Directions = ArrayVec<usize, 27>;
+pub type Directions = ArrayVec<usize, MAX_Q>;
 
 /// Each direction itself.
 pub fn same_directions<V: VelocitySet>() -> Directions

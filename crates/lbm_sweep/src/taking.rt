@@ -22,10 +22,8 @@ pub trait Taking<V: VelocitySet>: Drop {
     /// What the cell of a place takes from a direction: direction, then place.
     ghost taken: { Self → Lent → ℕ → ℕ → ℤ };
 
-    /// What has to be known of eight cells from a place on, so that they are taken by the shorter way of `take_clear`.
-    ghost clear: { Self → ℕ → Type 0 };
-
-    ghost clear_once: { (s : Self) (at : ℕ) → IsProp (clear s at) };
+    /// Whether eight cells from a place on may be taken by the shorter way of `take_clear`.
+    ghost clear: { Self → ℕ → Bool } = { λ s at. true };
 
     /// Whether the cells are gone over from the first one up, and else from the last one down.
     fn rises() -> bool
@@ -41,14 +39,14 @@ pub trait Taking<V: VelocitySet>: Drop {
 
     /// Whether eight cells from place `at` on are clear.
     fn is_clear(&self, at: u32) -> bool
-        ensures { result ≡ true → clear self.now at };
+        ensures { result ≡ clear self.now at };
 
     /// What eight cells from place `at` on take from a direction, where they are clear.
     fn take_clear(&self, loan: &Loan<'_>, dir: usize, at: u32) -> [i64; 8]
         requires known { dir < V.stencil.directions }
         requires within { IsWithin V.stencil.directions loan.now.ranges at 8 }
         requires fitting { (writes : List ℕ) × fits self.now writes loan.now }
-        requires clear { clear self.now at }
+        requires clear { clear self.now at ≡ true }
         ensures { (j : ℕ) → j < 8 → slice_index_or result j (pos 0) ≡ taken self.now loan.now dir (at + j) };
 
     ghost still_fits: { (s : Self) (writes : List ℕ) (a b : Lent) (from to : ℕ) → IsSameBut from to a b → fits s writes a → fits s writes b };

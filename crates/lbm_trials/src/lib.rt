@@ -1,28 +1,19 @@
 #![tactic(auto)]
-//! Tests of public calls with what a table of trials can't hand in: a gate, files that never fail, memory that is refused at
-//! any allocation, each damage of a checkpoint, a board that two threads share, eight cells in step, each mix of fluid
-//! and walls in such cells, cases that are mirrored and shifted, the real folder, and a bound on what is told.
+//! Tests of the whole program and of its patterns with what a table of trials can't hand in: a gate, files that never fail, memory that
+//! is refused at any allocation, a pattern that is none of the project's, cases that are mirrored and shifted, and a bound on
+//! what is told.
 //!
-//! They stand here and not beside what they test, since a crate with tests is proved once more for them.
+//! They stand here and not beside what they test, since a crate with tests is proved once more for them. lbm_parts_trials has the tests
+//! of what is below the patterns, and lbm_tiles_trials those of boards and tiles.
 
-#[cfg(test)]
-mod board_tests;
-#[cfg(test)]
-mod checkpoint_tests;
 #[cfg(test)]
 mod gate_tests;
 #[cfg(test)]
-mod lane_tests;
+mod momentum_tests;
 #[cfg(test)]
 mod pattern_tests;
 #[cfg(test)]
-mod plain;
-#[cfg(test)]
-mod rule_tests;
-#[cfg(test)]
-mod set_tests;
-#[cfg(test)]
-mod store_tests;
+mod runs;
 #[cfg(test)]
 mod symmetry_tests;
 #[cfg(test)]

@@ -1,18 +1,16 @@
 // Runs of patterns, one of which is none of the project's.
-ghost use Rattle.std.specs.Prelude.{◌≡◌, ◌≤◌, IsNone, IfOk};
+ghost use Rattle.std.specs.Prelude.{◌≡◌, ◌≤◌, IsNone};
 ghost use Rattle.lbm_model.specs.Limits.{most_steps};
-ghost use Rattle.lbm_model.specs.Flow.{IsStateOf};
-ghost use Rattle.lbm_model.specs.Small.{IsNarrow};
 
-use crate::plain::Plain;
 use lbm_aa::Aa;
 use lbm_case::read_case;
 use lbm_flow::{RunEnd, run_pattern, state_of};
 use lbm_grid::Grid;
 use lbm_lattice::Pattern;
-use lbm_model::{Case, NoGate, State, at_set, first_state};
+use lbm_model::{Case, NoGate, State, at_set};
+use lbm_plain::{Plain, first_of};
 use lbm_rows::{Tiles, tile_rows};
-use lbm_space::{Cutting, Memory, VelocitySet};
+use lbm_space::{Cutting, VelocitySet};
 use lbm_swap::Swap;
 use lbm_two::Two;
 use std::alloc::Global;
@@ -22,7 +20,7 @@ use std::thread::Threads;
 
 // Which pattern runs a case.
 #[derive(Clone, Copy, Debug)]
-pub(crate) enum Kind {
+enum Kind {
     Plain,
     Two,
     Swap,
@@ -46,16 +44,6 @@ fn reached<R: Threads + Sync, P: Pattern<NoGate> + Drop>(
         Ok(()) => Ok(Ok(state_of(alloc, &pattern)?)),
         Err(end) => Ok(Err(end)),
     }
-}
-
-// The first state of a case.
-pub(crate) fn first_of<V: VelocitySet>(alloc: Global, case: &Case) -> Result<State, Memory>
-    requires { case.now.stencil ≡ V.stencil }
-    ensures state { IfOk result (IsStateOf case.now) }
-    ensures narrow { IfOk result IsNarrow }
-{
-    let state = first_state::<V>(alloc, case)?;
-    Ok(state)
 }
 
 // The same from the first state of a case, over three slabs, or tiles of a row each that three turns take.
@@ -106,7 +94,7 @@ fn reached_in<V: VelocitySet + Sync, R: Threads + Sync>(
 }
 
 // The same of the case that a text spells.
-pub(crate) fn reached_of<R: Threads + Sync>(
+fn reached_of<R: Threads + Sync>(
     rt: &R,
     alloc: Global,
     kind: Kind,

@@ -1,9 +1,7 @@
 // Cases that are mirrored, turned over and shifted, through the whole program: the file of the moved case is the file of the case,
 // moved cell by cell. Walls move, there are two rates of relaxation, a force on each axis, and denser cells.
-use crate::tests::words_of;
-use lbm_flow::{End, run_words};
+use crate::runs::ran;
 use lbm_model::NoGate;
-use lbm_store::{MapStore, VecSink};
 use std::alloc::Global;
 use std::marker::Sync;
 use std::process::Abort;
@@ -92,26 +90,14 @@ fn vector_in(line: &str) -> Option<[i64; 3]> {
 }
 
 // The file that a run of seven steps of a case writes, and the line that it tells.
-fn ran<R: Threads + Sync>(
+fn ran_by<R: Threads + Sync>(
     rt: &R,
     alloc: Global,
     pattern: &str,
     case: &str,
 ) -> Result<(String, String), Fail> {
-    let mut store = MapStore::new(alloc, Vec::new(alloc));
-    store.put("c", case.as_bytes())?;
-    let mut sink = VecSink::new(alloc, Vec::new(alloc));
     let line = format!(in alloc; "run c 7 o --workers 3 --pattern {pattern}")?;
-    let words = words_of(alloc, &line)?;
-    if run_words(rt, alloc, alloc, &words, &mut store, &mut sink, &NoGate) != End::Done {
-        return Err("the run ends at its last step".into());
-    }
-    let file = str::from_utf8(store.bytes("o").unwrap_or(b""))?;
-    let told = str::from_utf8(sink.bytes())?;
-    Ok((
-        String::from_str(alloc, file)?,
-        String::from_str(alloc, told.trim_end())?,
-    ))
+    ran(rt, alloc, case, &line, &NoGate)
 }
 
 // The lines of a text.
@@ -166,10 +152,10 @@ fn compare<R: Threads + Sync + Abort>(
     all_moved: &[Moved],
 ) -> Result<(), Fail> {
     for pattern in ["two", "swap", "grid", "aa", "tiles"] {
-        let (file, told) = ran(rt, alloc, pattern, case)?;
+        let (file, told) = ran_by(rt, alloc, pattern, case)?;
         let lines = lines_of(alloc, &file)?;
         for moved in all_moved.iter() {
-            let (moved_file, moved_told) = ran(rt, alloc, pattern, moved.text)?;
+            let (moved_file, moved_told) = ran_by(rt, alloc, pattern, moved.text)?;
             let moved_lines = lines_of(alloc, &moved_file)?;
             let turn = moved.turn;
             assert!(rt;

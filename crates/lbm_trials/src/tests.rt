@@ -1,8 +1,8 @@
 // Files that never fail, and memory that is refused.
+use crate::runs::words_of;
 use lbm_flow::{End, run_in_memory, run_words};
 use lbm_model::NoGate;
 use lbm_store::{MapStore, SureSink, SureStore, VecSink};
-use std::alloc::{AllocError, Global};
 use std::test::Fail;
 
 // A plane of one cell at rest.
@@ -24,15 +24,6 @@ VECTORS momentum int
 ";
 
 const ONE_CELL_LINE: &[u8] = b"step 10 mass 884736 momentum 0 0 0\n";
-
-// The words of a line, with a space between each two of them.
-pub(crate) fn words_of(alloc: Global, line: &str) -> Result<Vec<String>, AllocError> {
-    let mut words = Vec::new(alloc);
-    for word in line.split(" ") {
-        words.push(String::from_str(alloc, word)?)?;
-    }
-    Ok(words)
-}
 
 // Over files that never fail, a case that is not there has no bytes.
 #[test]

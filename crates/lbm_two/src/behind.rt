@@ -10,6 +10,7 @@ ghost use Rattle.lbm_sweep.specs.Held.{width};
 ghost use Rattle.lbm_two.specs.Behind.{slot_behind, AreBehind, AreThere};
 
 use lbm_arrays::{Loan, place_behind};
+use lbm_cell::MAX_Q;
 use lbm_space::{Space, VelocitySet};
 use lbm_sweep::{SlabCall, Slots, Source, Taking, collide_taking, eight_at, lanes_at};
 use lbm_walk::Kernel;
@@ -54,7 +55,7 @@ fn slots_behind<V: VelocitySet>(space: &Space, first: u32) -> Slots
     requires cell { IsInterior space.now first }
     ensures { AreBehind space.now V.stencil first V.stencil.directions result }
 {
-    let mut slots = [0; 27];
+    let mut slots = [0; MAX_Q];
     let size = space.padded() as usize;
     for i in 0..V::Q {
         slots[i] = i * size + place_behind::<V>(space, i, first) as usize;
@@ -78,10 +79,6 @@ impl<V: VelocitySet> Taking<V> for PlacesBehind<'_> {
     ghost fits_once = { λ w writes lent. Prim.hlevel props };
 
     ghost taken = { λ w lent i p. slice_index_or w.numbers.now (slice_index w.starts i + (p - 1)) (pos 0) };
-
-    ghost clear = { λ w at. Unit {0} };
-
-    ghost clear_once = { λ w at. Prim.hlevel props };
 
     #[inline(always)]
     fn rises() -> bool

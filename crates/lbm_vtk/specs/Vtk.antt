@@ -17,18 +17,18 @@ abbrev pub name : Format → List ℕ
 name Ascii = codes "ASCII"
 name Binary = codes "BINARY"
 
--- the lines before the numbers
-abbrev pub head : Torus → ℕ → Format → List (List ℕ)
-head space step format =
+-- the lines before the numbers: `title` and the step are the second, and `field` names the first table of numbers
+abbrev pub head : Torus → (title : List ℕ) → (step : ℕ) → (field : List ℕ) → Format → List (List ℕ)
+head space title step field format =
     codes "# vtk DataFile Version 3.0" ∷
-    (codes "lattice Boltzmann step " ++ decimal step) ∷
+    (title ++ decimal step) ∷
     name format ∷
     codes "DATASET STRUCTURED_POINTS" ∷
     (codes "DIMENSIONS " ++ join_by decimal (codes " ") (space.nx ∷ space.ny ∷ space.nz ∷ [])) ∷
     codes "ORIGIN 0 0 0" ∷
     codes "SPACING 1 1 1" ∷
     (codes "POINT_DATA " ++ decimal (cells space)) ∷
-    codes "SCALARS density int 1" ∷
+    (codes "SCALARS " ++ (field ++ codes " int 1")) ∷
     codes "LOOKUP_TABLE default" ∷
     []
 
@@ -60,10 +60,15 @@ momentum cell = cell.jx ∷ cell.jy ∷ cell.jz ∷ []
 -- the file of a space at a step, with the moments of its cells in the order of their numbers
 abbrev pub vtk : Torus → ℕ → List Moment → Format → List ℕ
 vtk space step moments format =
-    flat_map line (head space step format)
+    flat_map line (head space (codes "lattice Boltzmann step ") step (codes "density") format)
     ++ table format density moments
     ++ line (codes "VECTORS momentum int")
     ++ table format momentum moments
+
+-- a file in ASCII with one number for each cell
+abbrev pub scalars : Torus → (title : List ℕ) → (step : ℕ) → (field : List ℕ) → List ℤ → List ℕ
+scalars space title step field numbers =
+    flat_map line (head space title step field Ascii) ++ flat_map (λ number. row Ascii (number ∷ [])) numbers
 
 -- each number of a cell fits the 32 signed bits of an int of VTK
 pub record FitsInts (cell : Moment) : Type 0 where

@@ -3,12 +3,13 @@
 --     first, after    what each cell took from a direction at first, and what it is to send: cell, then direction
 --     there, sent     what cell j takes from direction i, and what stands where it sends direction i: direction, then cell
 use Rattle.std.specs.Prelude.{◌≡◌, ℕ, ◌<◌, ◌≤◌, ◌==◌, nat_lt, min, ℤ, pos, if◌then◌else◌}
+use Rattle.lbm_space.specs.Limits.{most_directions}
 use Rattle.lbm_space.specs.Sum.{sum_from_one}
 use Rattle.lbm_space.specs.Stencil.{Stencil, opposite}
 
 -- a pair is put at its lesser direction, and the rest direction behind all pairs
 unfoldable pub turn : Stencil → ℕ → ℕ
-turn v i = if i == 0 then 27 else min i (opposite v i)
+turn v i = if i == 0 then most_directions else min i (opposite v i)
 
 -- the directions whose turn is below m were put, and from all others the cells take what they took at first
 pub record IsUnderway (v : Stencil) (n m : ℕ) (after first there sent : ℕ → ℕ → ℤ) : Type 0 where

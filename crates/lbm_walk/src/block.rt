@@ -2,16 +2,18 @@
 
 ghost use Rattle.std.specs.Prelude.{◌≡◌, ◌≢◌, ◌<◌, ◌≤◌, ℕ, pos, refl};
 ghost use Rattle.std.proofs.Common.{◌∙◌};
+ghost use Rattle.lbm_space.specs.Limits.{most_directions};
 ghost use Rattle.lbm_walk.specs.Blocks.{row, lane, IsBlock};
 
 use crate::Rows;
+use lbm_cell::MAX_Q;
 use lbm_space::VelocitySet;
 
 /// The populations of eight cells: row i has population i of each, and gets what they send in direction i. Lane j of a
 /// row is the j-th cell.
 #[derive(Clone, Copy, Debug, PartialEq, Eq)]
 pub struct Block {
-    pub rows: [[i64; 8]; 27],
+    pub rows: [[i64; 8]; MAX_Q],
     ghost sized: { IsBlock rows },
 }
 
@@ -20,12 +22,14 @@ impl Block {
     pub fn zero() -> Block
         ensures { (i j : ℕ) → lane result.rows j i ≡ pos 0 }
     {
-        Block { rows: [[0; 8]; 27] }
+        Block {
+            rows: [[0; 8]; MAX_Q],
+        }
     }
 
     /// Puts the populations of a direction, lane by lane.
     pub fn fill(&mut self, dir: u32, lanes: [i64; 8])
-        requires { dir < 27 }
+        requires { dir < most_directions }
         ensures filled { row self.new.rows dir ≡ lanes }
         ensures others { (i : ℕ) → i ≢ dir → row self.new.rows i ≡ row self.old.rows i }
     {
@@ -34,7 +38,7 @@ impl Block {
 
     /// The populations of a direction, lane by lane.
     pub fn lanes(&self, dir: u32) -> [i64; 8]
-        requires { dir < 27 }
+        requires { dir < most_directions }
         ensures { result ≡ row self.now.rows dir }
     {
         self.rows[dir as usize]

@@ -9,16 +9,16 @@ use Rattle.lbm_vtk.proofs.put_densities.Goals as goal
 pub loop-cell-init : goal.loop-cell-init
 loop-cell-init g c = Puts-none _ _
 
-pub returns-in_err-put_density : goal.returns-in_err-put_density
-returns-in_err-put_density g c =
+pub returns-in_err-put_number : goal.returns-in_err-put_number
+returns-in_err-put_number g c =
     let p = err_from_is_err_and c.from_residual.result c.from_residual.ensures.1 in
     rw (p.1, p.2)
     (Puts-cut _ {S = Unit {0}} _ _ _ _ _
-    (Puts-cut_item _ (λ cell. row c.args.format (density cell)) _ _ _ _ c.args.cells.now c.loop-cell.cell-index _ (search rules) c.loop-cell.invariant c.in_err-put_density.ensures))
+    (Puts-cut_item _ (λ cell. row c.args.format (density cell)) _ _ _ _ c.args.cells.now c.loop-cell.cell-index _ (search rules) c.loop-cell.invariant c.in_err-put_number.ensures))
 
 pub loop-cell-preserved : goal.loop-cell-preserved
 loop-cell-preserved g c =
-    Puts-next_item _ (λ cell. row c.args.format (density cell)) _ _ _ _ c.args.cells.now c.loop-cell.cell-index _ (search rules) c.loop-cell.invariant c.in_ok-put_density.ensures
+    Puts-next_item _ (λ cell. row c.args.format (density cell)) _ _ _ _ c.args.cells.now c.loop-cell.cell-index _ (search rules) c.loop-cell.invariant c.in_ok-put_number.ensures
 
 pub returns : goal.returns
 returns g c =

@@ -1,0 +1,12 @@
+pub mod Worked
+pub mod Sets
+pub mod Numbers
+pub mod Limits
+pub mod Neighbours
+pub mod Total
+pub mod Places
+pub mod Putting
+pub mod States
+pub mod Running
+pub mod Agreement
+pub mod Sending

@@ -1,0 +1,9 @@
+pub mod Limits
+pub mod Sets
+pub mod Collision
+pub mod Tracing
+pub mod Carried
+pub mod Running
+pub mod Trace
+pub mod Laws
+pub mod Worked
