@@ -2,9 +2,10 @@
 
 ghost use Rattle.std.specs.Prelude.{◌<◌, ℕ, FitsSigned, pos, slice_index_or};
 ghost use Rattle.std.specs.Int.{w32};
+ghost use Rattle.lbm_space.specs.Limits.{most_directions};
 ghost use Rattle.lbm_walk.specs.Blocks.{lane};
 
-use lbm_cell::{Force, Rates};
+use lbm_cell::{Force, MAX_Q, Rates};
 use lbm_lanes::{Block, Rule, collide_block};
 use lbm_space::{D2Q9, D3Q19};
 use std::test::Fail;
@@ -34,18 +35,18 @@ fn wide(lanes: &[i32; 8]) -> [i64; 8]
 }
 
 // The block of these rows.
-fn block_of(rows: &[[i32; 8]; 27]) -> Block
-    ensures { (i j : ℕ) → i < 27 → j < 8 → FitsSigned w32 (lane result.rows j i) }
+fn block_of(rows: &[[i32; 8]; MAX_Q]) -> Block
+    ensures { (i j : ℕ) → i < most_directions → j < 8 → FitsSigned w32 (lane result.rows j i) }
 {
     let mut block = Block::zero();
-    for i in 0..27 {
+    for i in 0..MAX_Q {
         block.fill(i as u32, wide(&rows[i]));
     }
     block
 }
 
 // Puts nine populations in lane `j`.
-fn put(rows: &mut [[i32; 8]; 27], j: usize, cell: [i32; 9])
+fn put(rows: &mut [[i32; 8]; MAX_Q], j: usize, cell: [i32; 9])
     requires { j < 8 }
 {
     for i in 0..9 {
@@ -70,7 +71,7 @@ fn each_lane_follows_its_own_rule(rt: HostRuntime) -> Result<(), Fail> {
     let force = Force::new(1, 0, 0).ok_or("in range")?;
     let rule = Rule::<D2Q9>::new(rates, force);
     let numbers = [-9, 10, -20, 30, -40, 50, -60, 70, -80];
-    let mut rows = [[0; 8]; 27];
+    let mut rows = [[0; 8]; MAX_Q];
     put(&mut rows, 0, REST);
     put(&mut rows, 1, numbers);
     put(&mut rows, 2, PUSHED);
@@ -122,7 +123,7 @@ fn two_rates_act_in_space_and_the_least_lane_out_of_limits_is_told(
     let rates = Rates::trt(5, 3, 4).ok_or("in range")?;
     let force = Force::new(3, -2, 1).ok_or("in range")?;
     let rule = Rule::<D3Q19>::new(rates, force);
-    let mut rows = [[0; 8]; 27];
+    let mut rows = [[0; 8]; MAX_Q];
     // Lanes 1, 4 and 7 are the mixed cell, lane 2 is empty, and lane 5 has one population below zero.
     for i in 0..19 {
         let x = MIXED[i];
@@ -159,7 +160,7 @@ fn without_masks_nothing_changes(rt: HostRuntime) -> Result<(), Fail> {
     let rates = Rates::new(1, 1).ok_or("in range")?;
     let force = Force::new(1, 0, 0).ok_or("in range")?;
     let rule = Rule::<D2Q9>::new(rates, force);
-    let mut rows = [[0; 8]; 27];
+    let mut rows = [[0; 8]; MAX_Q];
     rows[0] = [-2147483648, 2147483647, 0, 1, 2, 3, 4, 5];
     let mut block = block_of(&rows);
     let before = block;

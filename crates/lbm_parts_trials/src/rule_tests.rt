@@ -1,13 +1,14 @@
 // The rule of a case over blocks of eight cells, against the rule of one cell, for each mix of fluid, walls and moving walls.
 
 ghost use Rattle.std.specs.Prelude.{◌≡◌, ◌<◌, ◌≤◌, ◌+◌, ◌^◌, ℕ, pos, slice_index_or, unsigned_abs};
+ghost use Rattle.lbm_space.specs.Limits.{most_directions};
 ghost use Rattle.lbm_space.specs.Torus.{cells};
 ghost use Rattle.lbm_cell.specs.Limits.{greatest_population};
 ghost use Rattle.lbm_cell.specs.Moments.{populations};
 ghost use Rattle.lbm_walk.specs.Blocks.{lane};
 
 use lbm_case::read_case;
-use lbm_cell::Pops;
+use lbm_cell::{MAX_Q, Pops};
 use lbm_model::{Case, at_set, post, sound};
 use lbm_rule::CellRule;
 use lbm_space::VelocitySet;
@@ -45,11 +46,11 @@ fn lanes(cell: u32, dir: u32, out: u8) -> [i64; 8]
 // The block of these cells. It has numbers past the directions of a set, too.
 fn block_of(cell: u32, out: u8) -> Block
     requires { cell + 8 ≤ 2 ^ 31 }
-    ensures { (i j : ℕ) → i < 27 → j < 8 → unsigned_abs (lane result.rows j i) ≤ greatest_population }
+    ensures { (i j : ℕ) → i < most_directions → j < 8 → unsigned_abs (lane result.rows j i) ≤ greatest_population }
 {
     let mut block = Block::zero();
-    for dir in 0..27 {
-        block.fill(dir, lanes(cell, dir, out));
+    for dir in 0..MAX_Q {
+        block.fill(dir as u32, lanes(cell, dir as u32, out));
     }
     block
 }
@@ -57,11 +58,11 @@ fn block_of(cell: u32, out: u8) -> Block
 // The populations of lane `j`.
 fn pops_in(block: &Block, j: usize) -> Pops
     requires lane { j < 8 }
-    requires small { (i k : ℕ) → i < 27 → k < 8 → unsigned_abs (lane block.now.rows k i) ≤ greatest_population }
-    ensures { (i : ℕ) → i < 27 → unsigned_abs (populations result.f i) ≤ greatest_population }
+    requires small { (i k : ℕ) → i < most_directions → k < 8 → unsigned_abs (lane block.now.rows k i) ≤ greatest_population }
+    ensures { (i : ℕ) → i < most_directions → unsigned_abs (populations result.f i) ≤ greatest_population }
 {
     let mut pops = Pops::zero();
-    for i in 0..27 {
+    for i in 0..MAX_Q {
         pops.f[i] = block.rows[i][j];
     }
     pops
@@ -72,7 +73,7 @@ fn is_sent<V: VelocitySet>(case: &Case, cell: u32, pops: &Pops, after: &Block, j
     requires set { case.now.stencil ≡ V.stencil }
     requires cell { cell < cells case.now.torus }
     requires lane { j < 8 }
-    requires small { (i : ℕ) → i < 27 → unsigned_abs (populations pops.now.f i) ≤ greatest_population }
+    requires small { (i : ℕ) → i < most_directions → unsigned_abs (populations pops.now.f i) ≤ greatest_population }
 {
     if !sound::<V>(case, cell, pops) {
         return false;
@@ -90,7 +91,7 @@ fn is_sent<V: VelocitySet>(case: &Case, cell: u32, pops: &Pops, after: &Block, j
 fn all_sent<V: VelocitySet>(case: &Case, cell: u32, before: &Block, after: &Block) -> bool
     requires set { case.now.stencil ≡ V.stencil }
     requires cells { cell + 8 ≤ cells case.now.torus }
-    requires small { (i j : ℕ) → i < 27 → j < 8 → unsigned_abs (lane before.now.rows j i) ≤ greatest_population }
+    requires small { (i j : ℕ) → i < most_directions → j < 8 → unsigned_abs (lane before.now.rows j i) ≤ greatest_population }
 {
     let _ = case.space().cells();
     for j in 0..8u32 {
@@ -106,7 +107,7 @@ fn all_sent<V: VelocitySet>(case: &Case, cell: u32, before: &Block, after: &Bloc
 fn first_unsound<V: VelocitySet>(case: &Case, cell: u32, block: &Block) -> Option<u32>
     requires set { case.now.stencil ≡ V.stencil }
     requires cells { cell + 8 ≤ cells case.now.torus }
-    requires small { (i j : ℕ) → i < 27 → j < 8 → unsigned_abs (lane block.now.rows j i) ≤ greatest_population }
+    requires small { (i j : ℕ) → i < most_directions → j < 8 → unsigned_abs (lane block.now.rows j i) ≤ greatest_population }
 {
     let _ = case.space().cells();
     for j in 0..8u32 {
@@ -123,7 +124,7 @@ fn agrees<V: VelocitySet>(case: &Case, rule: &CellRule<'_, V>, cell: u32, before
     requires set { case.now.stencil ≡ V.stencil }
     requires rule { rule.now ≡ case.now }
     requires cells { cell + 8 ≤ cells case.now.torus }
-    requires small { (i j : ℕ) → i < 27 → j < 8 → unsigned_abs (lane before.now.rows j i) ≤ greatest_population }
+    requires small { (i j : ℕ) → i < most_directions → j < 8 → unsigned_abs (lane before.now.rows j i) ≤ greatest_population }
 {
     let first = first_unsound::<V>(case, cell, before);
     let mut after = *before;

@@ -141,7 +141,7 @@ fn lent_row<V: VelocitySet>(case: &Case, t: u64, k: usize, row: u32) -> u32
 
 // How many slots of a tile of one row have what they are to have at the next time.
 fn right_slots<V: VelocitySet>(case: &Case, next: &State, t: u64, row: u32, tile: &Tile) -> usize
-    requires { t ≤ 1000000 }
+    requires { t ≤ most_steps }
 {
     let width = case.space().sides()[0];
     let mut right = 0usize;
@@ -163,7 +163,7 @@ fn right_slots<V: VelocitySet>(case: &Case, next: &State, t: u64, row: u32, tile
 
 // The same of tiles of a row each, all of them.
 fn right_in_all<V: VelocitySet>(case: &Case, next: &State, t: u64, pieces: &[Option<Tile>]) -> usize
-    requires { t ≤ 1000000 }
+    requires { t ≤ most_steps }
 {
     let mut right = 0usize;
     let mut row = 0u32;
@@ -185,7 +185,7 @@ fn right_after_serving<R: Threads + Wait>(
     t: u64,
 ) -> Result<usize, Fail>
     requires set { case.stencil ≡ d3q19 }
-    requires time { t ≤ 1000000 }
+    requires time { t ≤ most_steps }
 {
     let state = first_of::<D3Q19>(alloc, &case)?;
     let mut kept = make_rows::<D3Q19>(alloc, &case, &state, t)?;
