@@ -1,11 +1,12 @@
 #!/usr/bin/env python3
 """Paints a run of lbm as a PNG picture: by default the speed of each cell. It wants Python alone, 3.11 or later.
 
-    picture.py CASE FILE.vtk FILE.png [--voxels] [--of speed|x|y|z|density] [--layer Z] [--width PIXELS]
+    picture.py CASE FILE.vtk FILE.png [--voxels] [--of speed|x|y|z|density|tracer] [--layer Z] [--width PIXELS]
 
 The first row of the map is at the top, so the picture lies as the case file is written; solid cells are grey. Of a box in space one
 layer is painted, by default the middle one. Velocities have half of the force's share added, and are in cells a step. Below the
-picture stands the scale, with its least and its greatest value. --voxels is for a run over a voxel file, whose map is not that of CASE.
+picture stands the scale, with its least and its greatest value. --voxels is for a run over a voxel file, whose map is not that of CASE. With
+`--of tracer` FILE.vtk is the TRACE of `lbm tracer`, and the amounts of its cells are painted.
 """
 import argparse
 import struct
@@ -68,6 +69,8 @@ def values_of(case, fields, what, voxels):
     """What is painted of each cell: a number, or None where it is solid."""
     if what == "density":
         return [None if rho == 0 else rho / flow.UNIT for rho in fields.density]
+    if what == "tracer":
+        return [None if case.is_solid(cell) else amount for cell, amount in enumerate(fields.density)]
     speeds = flow.velocities(case, fields, voxels)
     if what == "speed":
         return [None if v is None else sum(part * part for part in v) ** 0.5 for v in speeds]
@@ -78,7 +81,7 @@ def scale_of(values, what):
     """The least and the greatest value of the scale."""
     known = [value for value in values if value is not None] or [0]
     low, high = min(known), max(known)
-    if what == "speed":
+    if what in ("speed", "tracer"):
         low = 0
     elif what in "xyz":
         high = max(-low, high)
@@ -112,7 +115,7 @@ def main():
     reader.add_argument("file")
     reader.add_argument("picture")
     reader.add_argument("--voxels", action="store_true")
-    reader.add_argument("--of", default="speed", choices=["speed", "x", "y", "z", "density"])
+    reader.add_argument("--of", default="speed", choices=["speed", "x", "y", "z", "density", "tracer"])
     reader.add_argument("--layer", type=int)
     reader.add_argument("--width", type=int, default=800)
     words = reader.parse_args()
@@ -123,7 +126,7 @@ def main():
     low, high = scale_of(values, words.of)
     colours = SIGNED if words.of in "xyz" else SIZES
     write_png(words.picture, painted(values, (nx, ny), low, high, words.width), colours)
-    units = "units of density" if words.of == "density" else "cells a step"
+    units = {"density": "units of density", "tracer": "units"}.get(words.of, "cells a step")
     print(f"{words.of} at step {fields.step}, {low:.4g} to {high:.4g} {units}")
 
 

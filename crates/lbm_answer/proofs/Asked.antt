@@ -1,5 +1,5 @@
 -- What a run and a request come to, a step at a time.
-use Rattle.std.proofs.Common.{◌≡◌, ℕ, ◌<◌, ◌≤◌, ◌++◌, List, length, Ok, Err, refl, sym}
+use Rattle.std.proofs.Common.{◌≡◌, true, false, ℕ, ◌<◌, ◌≤◌, ◌++◌, List, length, Ok, Err, refl, sym}
 use Rattle.std.specs.Prelude.{pos, ◌+ℤ◌, ◌*ℤ◌, ◌-◌}
 use Rattle.std.proofs.lemmas.Bool.{le-leb, lt-leb}
 use Rattle.lbm_store.specs.Outside.{Files, content}
@@ -9,16 +9,16 @@ use Rattle.lbm_case.specs.declared.fault.CaseFault.{CaseFault}
 use Rattle.lbm_case.specs.CaseOf.{case_of}
 use Rattle.lbm_voxel.specs.declared.fault.VoxelFault.{VoxelFault}
 use Rattle.lbm_voxel.specs.Voxels.{voxels_of}
-use Rattle.lbm_words.specs.Request.{Run, Check, Demo, Voxels, Request, run, check, demo, voxels}
+use Rattle.lbm_words.specs.Request.{Run, Check, Demo, Voxels, Tracer, Request, run, check, demo, voxels, tracer}
 use Rattle.lbm_answer.specs.declared.answer.File.{File}
 use Rattle.lbm_answer.specs.declared.answer.File.TheVariants.{CaseFile, Voxel}
 use Rattle.lbm_answer.specs.declared.answer.End.{End}
-use Rattle.lbm_answer.specs.declared.answer.End.TheVariants.{Case, TooLong, Voxel as BadVoxel}
+use Rattle.lbm_answer.specs.declared.answer.End.TheVariants.{Case, TooLong, Voxel as BadVoxel, Spot}
 use Rattle.lbm_answer.specs.declared.report.Report.{Report}
 use Rattle.lbm_answer.specs.Reports.{mass_of, momentum_of}
 use Rattle.lbm_answer.specs.Drift.{IsWithinDrift}
 use Rattle.lbm_answer.specs.Gen.{gen}
-use Rattle.lbm_answer.specs.Outcome.{Job, Beginning, admitted, begun, bytes_within, case_limit, voxel_limit, case_read, voxels_read, checked, concluded, demo_job, job_of, job_outcome, outcome, run_from, run_job}
+use Rattle.lbm_answer.specs.Outcome.{Job, Beginning, admitted, begun, bytes_within, case_limit, voxel_limit, bad_cut, case_read, voxels_read, checked, concluded, demo_job, is_spot, job_of, job_outcome, outcome, run_from, run_job, traced, traced_run, tracer_outcome, uncut}
 use Rattle.lbm_answer.specs.Answer.{KeepsLaws, keeps_of}
 
 -- ---- a run
@@ -83,6 +83,25 @@ module _ (name : List ℕ) (files : Files) where
       unfolding voxels_read
       voxels_read-case shaped is = rw (read, is) refl
 
+-- ---- a run with a tracer
+
+module _ (r : Tracer) (case : FlowCase) where
+  -- one whose cutting is refused
+  pub tracer_outcome-refused : (refused : End) → uncut (bad_cut case.torus r.choice.cut) ≡ Err refused → tracer_outcome r case ≡ Err refused
+  unfolding tracer_outcome
+  tracer_outcome-refused refused is = rw is refl
+
+  module _ (is : uncut (bad_cut case.torus r.choice.cut) ≡ Ok tt) where
+    -- one whose tracer has no place to begin
+    pub tracer_outcome-unplaced : is_spot case r.cell ≡ false → tracer_outcome r case ≡ Err (Spot r.cell)
+    unfolding tracer_outcome
+    tracer_outcome-unplaced none = rw (is, none) refl
+
+    -- one that begins
+    pub tracer_outcome-begun : is_spot case r.cell ≡ true → tracer_outcome r case ≡ traced r case (traced_run r case)
+    unfolding tracer_outcome
+    tracer_outcome-begun fluid = rw (is, fluid) refl
+
 -- ---- a request
 
 -- a request that is refused before its run is known
@@ -103,6 +122,10 @@ module _ (files : Files) (refused : End) where
       → voxels_read v.file case files ≡ Err refused → outcome (voxels v) files ≡ Err refused
   unfolding outcome job_of
   voxels-unread v bytes case read is = rw (read, is) refl
+
+  pub tracer-unread : (r : Tracer) → case_read r.case files ≡ Err refused → outcome (tracer r) files ≡ Err refused
+  unfolding outcome
+  tracer-unread r is = rw is refl
 
 pub demo-refused : (files : Files) (d : Demo) (fault : CaseFault) → case_of (gen d.n) ≡ Err fault → outcome (demo d) files ≡ Err (Case fault)
 unfolding outcome job_of
@@ -129,6 +152,7 @@ module _ (files : Files) where
   outcome-job (check c) job is = absurd cc
   outcome-job (demo d) job is = rw is refl
   outcome-job (voxels v) job is = rw is refl
+  outcome-job (tracer r) job is = absurd cc
 
   pub keeps-job : (request : Request) (job : Job) (report : Report) → job_of request files ≡ Ok job → KeepsLaws job files report → keeps_of request files report
   unfolding job_of
@@ -136,6 +160,11 @@ module _ (files : Files) where
   keeps-job (check c) job report is keeps = absurd cc
   keeps-job (demo d) job report is keeps = rw is keeps
   keeps-job (voxels v) job report is keeps = rw is keeps
+  keeps-job (tracer r) job report is keeps = absurd cc
+
+  pub tracer-read : (r : Tracer) (bytes : List ℕ) (case : FlowCase) → case_read r.case files ≡ Ok (bytes, case) → outcome (tracer r) files ≡ tracer_outcome r case
+  unfolding outcome
+  tracer-read r bytes case is = rw is refl
 
   pub check-read : (c : Check) (bytes : List ℕ) (case : FlowCase) → case_read c.case files ≡ Ok (bytes, case) → outcome (check c) files ≡ Ok (checked case)
   unfolding outcome

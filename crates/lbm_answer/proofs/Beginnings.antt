@@ -13,9 +13,9 @@ use Rattle.lbm_ckpt.specs.declared.fault.CkptFault.{CkptFault}
 use Rattle.lbm_ckpt.specs.declared.fault.CkptEnd.{CkptEnd}
 use Rattle.lbm_ckpt.specs.declared.fault.CkptEnd.TheVariants as ckpt_end
 use Rattle.lbm_ckpt.specs.Ckpt.{checkpoint_of, ckpt_size, Refuses}
-use Rattle.lbm_answer.specs.declared.answer.File.TheVariants.{CaseFile, Voxel, Checkpoint, Out, Save}
+use Rattle.lbm_answer.specs.declared.answer.File.TheVariants.{CaseFile, Voxel, Checkpoint, Out, Save, Trace}
 use Rattle.lbm_answer.specs.declared.answer.End.{End}
-use Rattle.lbm_answer.specs.declared.answer.End.TheVariants.{Done, Usage, Case, TooLong, Voxel as BadVoxel, Cut, Checkpoint as BadCheckpoint, Past, Range, StoreFault, SinkFault, Memory}
+use Rattle.lbm_answer.specs.declared.answer.End.TheVariants.{Done, Usage, Case, TooLong, Voxel as BadVoxel, Cut, Spot, Checkpoint as BadCheckpoint, Past, Range, TracerRange, StoreFault, SinkFault, Memory}
 use Rattle.lbm_answer.specs.Causes.{checkpoint_end}
 use Rattle.lbm_answer.specs.Files.{ReadsBytes}
 use Rattle.lbm_answer.specs.Outcome.{Job, begun, begun_at, resumed}
@@ -76,20 +76,24 @@ module _ (job : Job) (before : StoreState) (name : List ℕ) (named : job.resume
   Begins-unread A limit after (TooLong Voxel) limit_is read = absurd cc
   Begins-unread A limit after (TooLong Out) limit_is read = absurd cc
   Begins-unread A limit after (TooLong Save) limit_is read = absurd cc
+  Begins-unread A limit after (TooLong Trace) limit_is read = absurd cc
   Begins-unread A limit after (StoreFault Checkpoint) limit_is read = (name, named, read.1)
   Begins-unread A limit after (StoreFault CaseFile) limit_is read = absurd cc
   Begins-unread A limit after (StoreFault Voxel) limit_is read = absurd cc
   Begins-unread A limit after (StoreFault Out) limit_is read = absurd cc
   Begins-unread A limit after (StoreFault Save) limit_is read = absurd cc
+  Begins-unread A limit after (StoreFault Trace) limit_is read = absurd cc
   Begins-unread A limit after Memory limit_is read = tt
   Begins-unread A limit after Done limit_is read = absurd read
   Begins-unread A limit after Usage limit_is read = absurd read
   Begins-unread A limit after (Case fault) limit_is read = absurd read
   Begins-unread A limit after (BadVoxel fault) limit_is read = absurd read
   Begins-unread A limit after (Cut k) limit_is read = absurd read
+  Begins-unread A limit after (Spot cell) limit_is read = absurd read
   Begins-unread A limit after (BadCheckpoint fault) limit_is read = absurd read
   Begins-unread A limit after (Past at to) limit_is read = absurd read
   Begins-unread A limit after (Range step cell) limit_is read = absurd read
+  Begins-unread A limit after (TracerRange step cell) limit_is read = absurd read
   Begins-unread A limit after SinkFault limit_is read = absurd read
 
   -- it was read: the items of `bytes`, of which there are at most as many as a checkpoint of this space has

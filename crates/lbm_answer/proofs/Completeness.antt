@@ -6,9 +6,9 @@ use Rattle.lbm_store.specs.Outside.{Counts, Files, StoreState, SinkState, Rose}
 use Rattle.lbm_words.specs.Request.{Request}
 use Rattle.lbm_words.specs.Words.{request_of}
 use Rattle.lbm_answer.specs.declared.answer.File.{File}
-use Rattle.lbm_answer.specs.declared.answer.File.TheVariants.{CaseFile, Voxel, Checkpoint, Out, Save}
+use Rattle.lbm_answer.specs.declared.answer.File.TheVariants.{CaseFile, Voxel, Checkpoint, Out, Save, Trace}
 use Rattle.lbm_answer.specs.declared.answer.End.{End}
-use Rattle.lbm_answer.specs.declared.answer.End.TheVariants.{Done, Usage, Case, TooLong, Voxel as BadVoxel, Cut, Checkpoint as BadCheckpoint, Past, Range, StoreFault, SinkFault, Memory}
+use Rattle.lbm_answer.specs.declared.answer.End.TheVariants.{Done, Usage, Case, TooLong, Voxel as BadVoxel, Cut, Spot, Checkpoint as BadCheckpoint, Past, Range, TracerRange, StoreFault, SinkFault, Memory}
 use Rattle.lbm_answer.specs.Lines.{line_of}
 use Rattle.lbm_answer.specs.Faults.{NamedRose, NamedFault, FaultOf, FaultRose}
 use Rattle.lbm_answer.specs.Outcome.{Finished, outcome}
@@ -26,6 +26,7 @@ fault_rose name Voxel before after fault = rose_of _ _ (name Voxel) fault.0
 fault_rose name Checkpoint before after fault = rose_of _ _ (name Checkpoint) fault.0
 fault_rose name Out before after fault = rose_of _ _ (name Out) fault.0
 fault_rose name Save before after fault = rose_of _ _ (name Save) fault.0
+fault_rose name Trace before after fault = rose_of _ _ (name Trace) fault.0
 
 -- what is answered of what was decided
 told_as : (before after : SinkState) (line : List ℕ) (answer end : End) → TellsLine before after line answer answer end → (end ≡ answer) ⊎ (end ≡ Memory)
@@ -69,13 +70,16 @@ module _ (request : Request) (before after : StoreState) (sink sink_after : Sink
     answered (Err (StoreFault Checkpoint)) decided tells = faulted Checkpoint decided.0
     answered (Err (StoreFault Out)) decided tells = faulted Out decided.0
     answered (Err (StoreFault Save)) decided tells = faulted Save decided.0
+    answered (Err (StoreFault Trace)) decided tells = faulted Trace decided.0
     answered (Err (Case fault)) decided tells = as_refused (Case fault) decided tells
     answered (Err (TooLong file)) decided tells = as_refused (TooLong file) decided tells
     answered (Err (BadVoxel fault)) decided tells = as_refused (BadVoxel fault) decided tells
     answered (Err (Cut k)) decided tells = as_refused (Cut k) decided tells
+    answered (Err (Spot cell)) decided tells = as_refused (Spot cell) decided tells
     answered (Err (BadCheckpoint fault)) decided tells = as_refused (BadCheckpoint fault) decided tells
     answered (Err (Past at to)) decided tells = as_refused (Past at to) decided tells
     answered (Err (Range step cell)) decided tells = as_refused (Range step cell) decided tells
+    answered (Err (TracerRange step cell)) decided tells = as_refused (TracerRange step cell) decided tells
     answered (Err Usage) decided tells = absurd decided
     answered (Err Done) decided tells = absurd decided
     answered (Err SinkFault) decided tells = absurd decided

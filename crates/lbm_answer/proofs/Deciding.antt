@@ -8,9 +8,9 @@ use Rattle.lbm_model.specs.Case.{IsCase, all_gain}
 use Rattle.lbm_model.specs.Laws.{IsFlow}
 use Rattle.lbm_model.proofs.Mass.{mass-run}
 use Rattle.lbm_answer.specs.declared.left.Left.{Left}
-use Rattle.lbm_answer.specs.declared.answer.File.TheVariants.{CaseFile, Voxel, Checkpoint, Out, Save}
+use Rattle.lbm_answer.specs.declared.answer.File.TheVariants.{CaseFile, Voxel, Checkpoint, Out, Save, Trace}
 use Rattle.lbm_answer.specs.declared.answer.End.{End}
-use Rattle.lbm_answer.specs.declared.answer.End.TheVariants.{Done, Usage, Case, TooLong, Voxel as BadVoxel, Cut, Checkpoint as BadCheckpoint, Past, Range, StoreFault, SinkFault, Memory}
+use Rattle.lbm_answer.specs.declared.answer.End.TheVariants.{Done, Usage, Case, TooLong, Voxel as BadVoxel, Cut, Spot, Checkpoint as BadCheckpoint, Past, Range, TracerRange, StoreFault, SinkFault, Memory}
 use Rattle.lbm_answer.specs.declared.report.Report.{Report}
 use Rattle.lbm_answer.specs.declared.report.Report.TheVariants.{Run}
 use Rattle.lbm_answer.specs.Reports.{mass_of, momentum_of}
@@ -54,10 +54,12 @@ module _ (job : Job) (before : StoreState) where
   for-uncut (BadCheckpoint fault) cuts = absurd cuts
   for-uncut (Past at to) cuts = absurd cuts
   for-uncut (Range step cell) cuts = absurd cuts
+  for-uncut (Spot cell) cuts = absurd cuts
+  for-uncut (TracerRange step cell) cuts = absurd cuts
   for-uncut (StoreFault file) cuts = absurd cuts
   for-uncut SinkFault cuts = absurd cuts
 
-no_bad_cut : (bad : Option ℕ) → IsNone bad → bad ≡ None
+pub no_bad_cut : (bad : Option ℕ) → IsNone bad → bad ≡ None
 no_bad_cut None none = refl
 no_bad_cut (Some k) none = absurd cc
 
@@ -79,16 +81,20 @@ module _ (job : Job) (is_admitted : admitted job ≡ Ok tt) (before : StoreState
   for-unbegun after same writes (StoreFault Voxel) begins = absurd begins
   for-unbegun after same writes (StoreFault Out) begins = absurd begins
   for-unbegun after same writes (StoreFault Save) begins = absurd begins
+  for-unbegun after same writes (StoreFault Trace) begins = absurd begins
   for-unbegun after same writes (TooLong CaseFile) begins = absurd begins
   for-unbegun after same writes (TooLong Voxel) begins = absurd begins
   for-unbegun after same writes (TooLong Out) begins = absurd begins
   for-unbegun after same writes (TooLong Save) begins = absurd begins
+  for-unbegun after same writes (TooLong Trace) begins = absurd begins
   for-unbegun after same writes Done begins = absurd begins
   for-unbegun after same writes Usage begins = absurd begins
   for-unbegun after same writes (Case fault) begins = absurd begins
   for-unbegun after same writes (BadVoxel fault) begins = absurd begins
   for-unbegun after same writes (Cut k) begins = absurd begins
+  for-unbegun after same writes (Spot cell) begins = absurd begins
   for-unbegun after same writes (Range step cell) begins = absurd begins
+  for-unbegun after same writes (TracerRange step cell) begins = absurd begins
   for-unbegun after same writes SinkFault begins = absurd begins
 
   module _ (begin : Beginning) (begins : ForSome before.files (λ files. begun job files ≡ Ok begin)) where
@@ -105,6 +111,8 @@ module _ (job : Job) (is_admitted : admitted job ≡ Ok tt) (before : StoreState
     for-unfinished (TooLong file) finishes = absurd finishes
     for-unfinished (BadVoxel fault) finishes = absurd finishes
     for-unfinished (Cut k) finishes = absurd finishes
+    for-unfinished (Spot cell) finishes = absurd finishes
+    for-unfinished (TracerRange step cell) finishes = absurd finishes
     for-unfinished (BadCheckpoint fault) finishes = absurd finishes
     for-unfinished (Past at to) finishes = absurd finishes
     for-unfinished (StoreFault file) finishes = absurd finishes
@@ -162,13 +170,16 @@ module _ (job : Job) (is_admitted : admitted job ≡ Ok tt) (before : StoreState
       for-unsaved after reads (StoreFault CaseFile) saves = absurd saves
       for-unsaved after reads (StoreFault Voxel) saves = absurd saves
       for-unsaved after reads (StoreFault Checkpoint) saves = absurd saves
+      for-unsaved after reads (StoreFault Trace) saves = absurd saves
       for-unsaved after reads Done saves = absurd saves
       for-unsaved after reads Usage saves = absurd saves
       for-unsaved after reads (Case fault) saves = absurd saves
       for-unsaved after reads (TooLong file) saves = absurd saves
       for-unsaved after reads (BadVoxel fault) saves = absurd saves
       for-unsaved after reads (Cut k) saves = absurd saves
+      for-unsaved after reads (Spot cell) saves = absurd saves
       for-unsaved after reads (BadCheckpoint fault) saves = absurd saves
       for-unsaved after reads (Past at to) saves = absurd saves
       for-unsaved after reads (Range step cell) saves = absurd saves
+      for-unsaved after reads (TracerRange step cell) saves = absurd saves
       for-unsaved after reads SinkFault saves = absurd saves

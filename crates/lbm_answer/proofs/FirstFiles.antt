@@ -14,7 +14,7 @@ use Rattle.lbm_voxel.specs.Refusals.{Refuses as VoxelRefuses}
 use Rattle.lbm_answer.specs.declared.answer.File.{File}
 use Rattle.lbm_answer.specs.declared.answer.File.TheVariants.{CaseFile, Voxel}
 use Rattle.lbm_answer.specs.declared.answer.End.{End}
-use Rattle.lbm_answer.specs.declared.answer.End.TheVariants.{Done, Usage, Case, TooLong, Voxel as BadVoxel, Cut, Checkpoint as BadCheckpoint, Past, Range, StoreFault, SinkFault, Memory}
+use Rattle.lbm_answer.specs.declared.answer.End.TheVariants.{Done, Usage, Case, TooLong, Voxel as BadVoxel, Cut, Spot, Checkpoint as BadCheckpoint, Past, Range, TracerRange, StoreFault, SinkFault, Memory}
 use Rattle.lbm_answer.specs.Causes.{case_end, voxel_end}
 use Rattle.lbm_answer.specs.Files.{ReadsBytes, ReadsAs}
 use Rattle.lbm_answer.specs.Outcome.{bytes_within, case_limit, voxel_limit, case_read, voxels_read}
@@ -36,9 +36,11 @@ module _ (before after : StoreState) (name : List ℕ) where
   unread A view kind limit reading refuses (Case fault) read = absurd read
   unread A view kind limit reading refuses (BadVoxel fault) read = absurd read
   unread A view kind limit reading refuses (Cut k) read = absurd read
+  unread A view kind limit reading refuses (Spot cell) read = absurd read
   unread A view kind limit reading refuses (BadCheckpoint fault) read = absurd read
   unread A view kind limit reading refuses (Past at to) read = absurd read
   unread A view kind limit reading refuses (Range step cell) read = absurd read
+  unread A view kind limit reading refuses (TracerRange step cell) read = absurd read
   unread A view kind limit reading refuses SinkFault read = absurd read
 
   module _ {X : Type 0} (view : X → List ℕ × FlowCase) where

@@ -5,7 +5,7 @@ use Rattle.lbm_ckpt.specs.Ckpt.{ckpt}
 use Rattle.lbm_vtk.specs.Vtk.{vtk}
 use Rattle.lbm_answer.specs.declared.left.Left.{Left}
 use Rattle.lbm_answer.specs.declared.report.Report.{Report}
-use Rattle.lbm_answer.specs.declared.report.Report.TheVariants.{Run, Check}
+use Rattle.lbm_answer.specs.declared.report.Report.TheVariants.{Run, Check, Tracer}
 use Rattle.lbm_answer.specs.Reports.{printed_moments}
 use Rattle.lbm_answer.specs.Outcome.{Job, Beginning, finished, saved_files, vtk_of}
 use Rattle.lbm_answer.specs.Jobs.{Leaves, left_files, checkpoint_file}
@@ -14,6 +14,7 @@ use Rattle.lbm_answer.specs.Jobs.{Leaves, left_files, checkpoint_file}
 step_told : Report → ℕ
 step_told (Run r) = r.step
 step_told (Check r) = 0
+step_told (Tracer r) = r.step
 
 module _ (job : Job) (begin : Beginning) (left : Left) (leaves : Leaves job.case job.steps begin left) where
   pub left-step : left.report.step ≡ job.steps

@@ -17,4 +17,8 @@ pub mod SavedFiles
 pub mod Sure
 pub mod Gathered
 pub mod Resumed
+pub mod TracerRuns
+pub mod TracerSteps
+pub mod TracerLaws
+pub mod TracerEnds
 mod Drift

@@ -13,11 +13,11 @@ use Rattle.lbm_case.specs.Refusals.{Refuses as CaseRefuses}
 use Rattle.lbm_words.specs.declared.end.WordsEnd.{WordsEnd}
 use Rattle.lbm_words.specs.declared.end.WordsEnd.TheVariants as words_ends
 use Rattle.lbm_words.specs.Ends.{Gives}
-use Rattle.lbm_words.specs.Request.{Run, Check, Demo, Voxels, Request, run, check, demo, voxels}
+use Rattle.lbm_words.specs.Request.{Run, Check, Demo, Voxels, Tracer, Request, run, check, demo, voxels, tracer}
 use Rattle.lbm_answer.specs.declared.answer.File.{File}
-use Rattle.lbm_answer.specs.declared.answer.File.TheVariants.{CaseFile, Voxel, Checkpoint, Out, Save}
+use Rattle.lbm_answer.specs.declared.answer.File.TheVariants.{CaseFile, Voxel, Checkpoint, Out, Save, Trace}
 use Rattle.lbm_answer.specs.declared.answer.End.{End}
-use Rattle.lbm_answer.specs.declared.answer.End.TheVariants.{Done, Usage, Case, TooLong, Voxel as BadVoxel, Cut, Checkpoint as BadCheckpoint, Past, Range, StoreFault, SinkFault, Memory}
+use Rattle.lbm_answer.specs.declared.answer.End.TheVariants.{Done, Usage, Case, TooLong, Voxel as BadVoxel, Cut, Spot, Checkpoint as BadCheckpoint, Past, Range, TracerRange, StoreFault, SinkFault, Memory}
 use Rattle.lbm_answer.specs.declared.report.Report.{Report}
 use Rattle.lbm_answer.specs.Causes.{case_end, words_end}
 use Rattle.lbm_answer.specs.Files.{ReadsAs}
@@ -25,8 +25,8 @@ use Rattle.lbm_answer.specs.Reports.{check_report, mass_of}
 use Rattle.lbm_answer.specs.Gen.{gen}
 use Rattle.lbm_answer.specs.Outcome.{Job, CutAt, CutShort, case_read, voxels_read, demo_job, job_of, run_job, written}
 use Rattle.lbm_answer.specs.Faults.{FaultAt, NamedFault}
-use Rattle.lbm_answer.specs.Answer.{Asked, Decides, DecidesFor, Decision, asked_of, asked_of_job, ready_of, ready_job, ready_voxels}
-use Rattle.lbm_answer.proofs.Asked.{run-unread, check-unread, voxels-uncased, voxels-unread, demo-refused, run-job, demo-job, voxels-job, outcome-job, keeps-job, check-read}
+use Rattle.lbm_answer.specs.Answer.{Asked, Decides, DecidesFor, Decision, KeepsTracer, asked_of, asked_of_job, asked_of_tracer, ready_of, ready_job, ready_voxels}
+use Rattle.lbm_answer.proofs.Asked.{run-unread, check-unread, voxels-uncased, voxels-unread, tracer-unread, tracer-read, demo-refused, run-job, demo-job, voxels-job, outcome-job, keeps-job, check-read}
 use Rattle.lbm_answer.proofs.Deciding.{for-memory}
 
 -- over these files two are asked the same, and the second has the names of the first
@@ -71,13 +71,21 @@ for-same asked other before after same names (Err (StoreFault Save)) d = (
       let t = d.1 files told in
       (t.0, t.1, subst (λ o. IsOkAnd o (λ left. CutAt 1 left.files files t.0)) (sym (same files told).outcome) t.2),
 )
+for-same asked other before after same names (Err (StoreFault Trace)) d = (
+  (names Trace _ _ d.0.0, d.0.1),
+  λ files told.
+      let t = d.1 files told in
+      (t.0, t.1, subst (λ o. IsOkAnd o (λ left. CutAt 1 left.files files t.0)) (sym (same files told).outcome) t.2),
+)
 for-same asked other before after same names (Err (Case fault)) d = (d.0, λ files told. (same files told).outcome ∙ d.1 files told)
 for-same asked other before after same names (Err (TooLong file)) d = (d.0, λ files told. (same files told).outcome ∙ d.1 files told)
 for-same asked other before after same names (Err (BadVoxel fault)) d = (d.0, λ files told. (same files told).outcome ∙ d.1 files told)
 for-same asked other before after same names (Err (Cut k)) d = (d.0, λ files told. (same files told).outcome ∙ d.1 files told)
+for-same asked other before after same names (Err (Spot cell)) d = (d.0, λ files told. (same files told).outcome ∙ d.1 files told)
 for-same asked other before after same names (Err (BadCheckpoint fault)) d = (d.0, λ files told. (same files told).outcome ∙ d.1 files told)
 for-same asked other before after same names (Err (Past at to)) d = (d.0, λ files told. (same files told).outcome ∙ d.1 files told)
 for-same asked other before after same names (Err (Range step cell)) d = (d.0, λ files told. (same files told).outcome ∙ d.1 files told)
+for-same asked other before after same names (Err (TracerRange step cell)) d = (d.0, λ files told. (same files told).outcome ∙ d.1 files told)
 for-same asked other before after same names (Err Usage) d = absurd d
 for-same asked other before after same names (Err Done) d = absurd d
 for-same asked other before after same names (Err SinkFault) d = absurd d
@@ -99,9 +107,11 @@ for-unread view kind name reading asked before after refuses fault same Memory r
 for-unread view kind name reading asked before after refuses fault same Done read = absurd read
 for-unread view kind name reading asked before after refuses fault same Usage read = absurd read
 for-unread view kind name reading asked before after refuses fault same (Cut k) read = absurd read
+for-unread view kind name reading asked before after refuses fault same (Spot cell) read = absurd read
 for-unread view kind name reading asked before after refuses fault same (BadCheckpoint why) read = absurd read
 for-unread view kind name reading asked before after refuses fault same (Past at to) read = absurd read
 for-unread view kind name reading asked before after refuses fault same (Range step cell) read = absurd read
+for-unread view kind name reading asked before after refuses fault same (TracerRange step cell) read = absurd read
 for-unread view kind name reading asked before after refuses fault same SinkFault read = absurd read
 
 module _ {X : Type 0} (view : X → List ℕ × FlowCase) (before after : StoreState) (same : after.files ≡ before.files) (writes : after.write_faults ≡ before.write_faults) where
@@ -122,6 +132,9 @@ module _ {X : Type 0} (view : X → List ℕ × FlowCase) (before after : StoreS
 
   pub for-uncased_voxels : (v : Voxels) (end : End) → ReadsAs view CaseFile v.run.case (case_read v.run.case) before after (Err end) → DecidesFor (asked_of (voxels v)) before after (Err end)
   for-uncased_voxels v = case_unread v.run.case (asked_of (voxels v)) refl (λ files refused is. voxels-uncased files refused v is)
+
+  pub for-unread_tracer : (r : Tracer) (end : End) → ReadsAs view CaseFile r.case (case_read r.case) before after (Err end) → DecidesFor (asked_of (tracer r)) before after (Err end)
+  for-unread_tracer r = case_unread r.case (asked_of (tracer r)) refl (λ files refused is. tracer-unread files refused r is)
 
   -- the voxel file, behind a case file that was read
   pub for-unread_voxels : (v : Voxels) (bytes : List ℕ) (case : FlowCase) → ForSome before.files (λ files. case_read v.run.case files ≡ Ok (bytes, case))
@@ -157,6 +170,7 @@ for-job request job before after is_job ready names =
     ready_for files told CaseFile is = tt
     ready_for files told Out is = tt
     ready_for files told Save is = tt
+    ready_for files told Trace is = tt
 
 run_names : (r : Run) (case : FlowCase) (bytes : List ℕ) → HasNames (asked_of_job (run_job r case bytes)) (asked_of (run r))
 run_names r case bytes CaseFile before after rose = absurd rose
@@ -164,6 +178,7 @@ run_names r case bytes Voxel before after rose = absurd rose
 run_names r case bytes Checkpoint before after rose = rose
 run_names r case bytes Out before after rose = rose
 run_names r case bytes Save before after rose = rose
+run_names r case bytes Trace before after rose = absurd rose
 
 pub for-run : (r : Run) (bytes : List ℕ) (case : FlowCase) (before after : StoreState) → ForSome before.files (λ files. case_read r.case files ≡ Ok (bytes, case))
     → (decision : Decision) → DecidesFor (asked_of_job (run_job r case bytes)) before after decision → DecidesFor (asked_of (run r)) before after decision
@@ -176,6 +191,7 @@ demo_names d case Voxel before after rose = absurd rose
 demo_names d case Checkpoint before after rose = absurd rose
 demo_names d case Out before after rose = rose
 demo_names d case Save before after rose = rose
+demo_names d case Trace before after rose = absurd rose
 
 pub for-demo : (d : Demo) (case : FlowCase) (before after : StoreState) → case_of (gen d.n) ≡ Ok case
     → (decision : Decision) → DecidesFor (asked_of_job (demo_job d case)) before after decision → DecidesFor (asked_of (demo d)) before after decision
@@ -188,6 +204,7 @@ voxel_names v case bytes Voxel before after rose = absurd rose
 voxel_names v case bytes Checkpoint before after rose = rose
 voxel_names v case bytes Out before after rose = rose
 voxel_names v case bytes Save before after rose = rose
+voxel_names v case bytes Trace before after rose = absurd rose
 
 pub for-voxels : (v : Voxels) (bytes voxel_bytes : List ℕ) (case shaped : FlowCase) (before after : StoreState)
     → ForSome before.files (λ files. case_read v.run.case files ≡ Ok (bytes, case)) → ForSome before.files (λ files. voxels_read v.file case files ≡ Ok (voxel_bytes, shaped))
@@ -197,6 +214,27 @@ for-voxels v bytes voxel_bytes case shaped before after read shape =
     (λ files told. voxels-job files v bytes voxel_bytes case shaped (read files told) (shape files told))
     (λ files told. rw (read files told) refl)
     (voxel_names v shaped (bytes ++ voxel_bytes))
+
+-- ---- a run with a tracer
+
+tracer_names : (r : Tracer) (case : FlowCase) → HasNames (asked_of_tracer r case) (asked_of (tracer r))
+tracer_names r case CaseFile before after rose = absurd rose
+tracer_names r case Voxel before after rose = absurd rose
+tracer_names r case Checkpoint before after rose = absurd rose
+tracer_names r case Out before after rose = rose
+tracer_names r case Save before after rose = absurd rose
+tracer_names r case Trace before after rose = rose
+
+pub for-tracer : (r : Tracer) (bytes : List ℕ) (case : FlowCase) (before after : StoreState) → ForSome before.files (λ files. case_read r.case files ≡ Ok (bytes, case))
+    → (decision : Decision) → DecidesFor (asked_of_tracer r case) before after decision → DecidesFor (asked_of (tracer r)) before after decision
+for-tracer r bytes case before after read =
+    for-same (asked_of_tracer r case) (asked_of (tracer r)) before after
+    (λ files told. record {
+      outcome = tracer-read files r bytes case (read files told);
+      ready = λ file none. absurd none;
+      keeps = λ report keeps. subst (λ (o : Result (List ℕ × FlowCase) End). IsOkAnd o (λ found. KeepsTracer r found.1 report)) (sym (read files told)) keeps;
+    })
+    (tracer_names r case)
 
 -- ---- a check
 

@@ -18,7 +18,7 @@ use Rattle.lbm_case.proofs.Spelled.{spells-cases}
 use Rattle.lbm_voxel.specs.declared.fault.VoxelFault.{VoxelFault}
 use Rattle.lbm_voxel.specs.Voxels.{voxels_of}
 use Rattle.lbm_voxel.proofs.MadeCases.{passed, makes-cases}
-use Rattle.lbm_words.specs.Request.{Run, Voxels, run, check, demo, voxels}
+use Rattle.lbm_words.specs.Request.{Run, Voxels, run, check, demo, voxels, tracer}
 use Rattle.lbm_ckpt.specs.Ckpt.{checkpoint_of, ckpt, ckpt_1, ckpt_size}
 use Rattle.lbm_ckpt.specs.Laws.{CanBeKept}
 use Rattle.lbm_ckpt.proofs.Round.{read_again, exact_size}
@@ -144,7 +144,7 @@ abbrev Read : Type 0
 Read = List ℕ × FlowCase
 
 -- what was read is an accepted case
-case_read-valid : (name : List ℕ) (files : Files) (read : Read) → case_read name files ≡ Ok read → IsCase read.1
+pub case_read-valid : (name : List ℕ) (files : Files) (read : Read) → case_read name files ≡ Ok read → IsCase read.1
 unfolding case_read
 case_read-valid name files read e =
     let a = passed (bytes_within CaseFile case_limit name files) _ read e in
@@ -205,6 +205,7 @@ pub resumed-request : ResumedRequest
 unfolding outcome job_of
 resumed-request (run r) files name is way = resumed_run r files name is.few_steps way (case_read r.case files) refl
 resumed-request (check c) files name is way = refl
+resumed-request (tracer r) files name is way = refl
 resumed-request (demo d) files name is way = refl
 resumed-request (voxels v) files name is way = resumed_voxels v files name is.run.few_steps way (case_read v.run.case files) refl
 
@@ -254,6 +255,7 @@ requested-mass (run r) files name job left is found way e =
     ap (λ read. ends_of files (run_by (resumes r (Some name)) read)) (sym a.1) ∙ e in
     mass_of_run r x.1 x.0 files name job left (case_read-valid r.case files x a.1) is.few_steps (ok_is (run_job r x.1 x.0) job a.2) way ended
 requested-mass (check c) files name job left is found way e = absurd cc
+requested-mass (tracer r) files name job left is found way e = absurd cc
 requested-mass (demo d) files name job left is found way e =
     let a = passed (spelled (case_of (gen d.n))) (λ case. Ok (demo_job d case)) job found in
     let case : FlowCase = a.0 in

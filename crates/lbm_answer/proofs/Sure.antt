@@ -4,7 +4,7 @@ use Rattle.lbm_store.specs.Memory.{sure_store}
 use Rattle.lbm_store.specs.Outside.{no_faults}
 use Rattle.lbm_store.specs.declared.sure_store.SureStore.{SureStore}
 use Rattle.lbm_words.specs.Request.{Request}
-use Rattle.lbm_answer.specs.declared.answer.File.TheVariants.{CaseFile, Voxel, Checkpoint, Out, Save}
+use Rattle.lbm_answer.specs.declared.answer.File.TheVariants.{CaseFile, Voxel, Checkpoint, Out, Save, Trace}
 use Rattle.lbm_answer.specs.Faults.{NamedRose}
 use Rattle.lbm_answer.specs.Answer.{name_of}
 use Rattle.lbm_answer.specs.Complete.{StoreRose}
@@ -20,3 +20,4 @@ sure-never-rose (Some request) before after (Voxel, rose) = named-never-rose (na
 sure-never-rose (Some request) before after (Checkpoint, rose) = named-never-rose (name_of request Checkpoint) rose
 sure-never-rose (Some request) before after (Out, rose) = named-never-rose (name_of request Out) rose
 sure-never-rose (Some request) before after (Save, rose) = named-never-rose (name_of request Save) rose
+sure-never-rose (Some request) before after (Trace, rose) = named-never-rose (name_of request Trace) rose

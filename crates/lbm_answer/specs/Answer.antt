@@ -3,19 +3,19 @@ use Rattle.std.specs.Prelude.{◌≡◌, ◌⊎◌, ◌-◌, List, ℕ, Option, 
 use Rattle.std.specs.Option.{ForSome}
 use Rattle.lbm_store.specs.Outside.{Files, StoreState, SinkState, Rose, GotFront, followed}
 use Rattle.lbm_model.specs.State.{mass}
-use Rattle.lbm_model.specs.Case.{all_gain}
+use Rattle.lbm_model.specs.Case.{FlowCase, all_gain}
 use Rattle.lbm_model.specs.Flow.{first}
-use Rattle.lbm_words.specs.Request.{Request, run, check, demo, voxels}
+use Rattle.lbm_words.specs.Request.{Request, Tracer, run, check, demo, voxels, tracer}
 use Rattle.lbm_words.specs.Words.{request_of}
 use Rattle.lbm_answer.specs.declared.answer.File.{File}
-use Rattle.lbm_answer.specs.declared.answer.File.TheVariants.{CaseFile, Voxel, Checkpoint, Out, Save}
+use Rattle.lbm_answer.specs.declared.answer.File.TheVariants.{CaseFile, Voxel, Checkpoint, Out, Save, Trace}
 use Rattle.lbm_answer.specs.declared.answer.End.{End}
-use Rattle.lbm_answer.specs.declared.answer.End.TheVariants.{Done, Usage, Case, TooLong, Voxel as BadVoxel, Cut, Checkpoint as BadCheckpoint, Past, Range, StoreFault, SinkFault, Memory}
+use Rattle.lbm_answer.specs.declared.answer.End.TheVariants.{Done, Usage, Case, TooLong, Voxel as BadVoxel, Cut, Spot, Checkpoint as BadCheckpoint, Past, Range, TracerRange, StoreFault, SinkFault, Memory}
 use Rattle.lbm_answer.specs.declared.report.Report.{Report}
 use Rattle.lbm_answer.specs.Lines.{line_of, report_line}
 use Rattle.lbm_answer.specs.Faults.{NoFault, FaultOf}
-use Rattle.lbm_answer.specs.Outcome.{Job, Finished, OfFiles, CutAt, CutShort, admitted, begun, case_read, job_of, job_outcome, outcome, written}
-use Rattle.lbm_answer.specs.Reports.{mass_of, momentum_of}
+use Rattle.lbm_answer.specs.Outcome.{Job, Finished, OfFiles, CutAt, CutShort, admitted, begun, case_read, job_of, job_outcome, tracer_outcome, outcome, written}
+use Rattle.lbm_answer.specs.Reports.{mass_of, momentum_of, tracer_of}
 use Rattle.lbm_answer.specs.Drift.{IsWithinDrift}
 
 -- a report, or the answer in its place
@@ -53,13 +53,16 @@ DecidesFor asked before after (Err (StoreFault Checkpoint)) =
     FaultOf asked.name Checkpoint before after × (after.files ≡ before.files) × ForSome before.files (asked.ready Checkpoint)
 DecidesFor asked before after (Err (StoreFault Out)) = FaultOf asked.name Out before after × StopsAt 0 asked before after
 DecidesFor asked before after (Err (StoreFault Save)) = FaultOf asked.name Save before after × StopsAt 1 asked before after
+DecidesFor asked before after (Err (StoreFault Trace)) = FaultOf asked.name Trace before after × StopsAt 1 asked before after
 DecidesFor asked before after (Err (Case fault)) = Refuses asked before after (Case fault)
 DecidesFor asked before after (Err (TooLong file)) = Refuses asked before after (TooLong file)
 DecidesFor asked before after (Err (BadVoxel fault)) = Refuses asked before after (BadVoxel fault)
 DecidesFor asked before after (Err (Cut k)) = Refuses asked before after (Cut k)
+DecidesFor asked before after (Err (Spot cell)) = Refuses asked before after (Spot cell)
 DecidesFor asked before after (Err (BadCheckpoint fault)) = Refuses asked before after (BadCheckpoint fault)
 DecidesFor asked before after (Err (Past at to)) = Refuses asked before after (Past at to)
 DecidesFor asked before after (Err (Range step cell)) = Refuses asked before after (Range step cell)
+DecidesFor asked before after (Err (TracerRange step cell)) = Refuses asked before after (TracerRange step cell)
 -- never, where the words ask for something
 DecidesFor asked before after (Err Usage) = ⊥
 DecidesFor asked before after (Err Done) = ⊥
@@ -85,10 +88,31 @@ job_name job Voxel = None
 job_name job Checkpoint = job.resume
 job_name job Out = Some job.out
 job_name job Save = job.save
+job_name job Trace = None
 
 -- what a run is asked
 abbrev pub asked_of_job : Job → Asked
 asked_of_job job = record { outcome = job_outcome job; ready = ready_job job; keeps = KeepsLaws job; name = job_name job }
+
+-- ---- a run with a tracer
+
+-- the mass that it reports is that of the first state, and what the walls give in each step; of the tracer it reports all
+abbrev pub KeepsTracer : Tracer → FlowCase → Report → Type 0
+KeepsTracer r case report = (mass_of report ≡ mass (first case) +ℤ (pos r.steps *ℤ all_gain case)) × (tracer_of report ≡ pos r.amount)
+
+abbrev pub tracer_name : Tracer → File → Option (List ℕ)
+tracer_name r Out = Some r.out
+tracer_name r Trace = Some r.trace
+tracer_name r file = None
+
+-- what it is asked, where its case was read: no other file is read
+abbrev pub asked_of_tracer : Tracer → FlowCase → Asked
+asked_of_tracer r case = record {
+  outcome = λ files. tracer_outcome r case;
+  ready = λ file files. ⊥;
+  keeps = λ files. KeepsTracer r case;
+  name = tracer_name r;
+}
 
 -- ---- a request
 
@@ -106,6 +130,7 @@ ready_of request file files = Unit {0}
 -- the mass that a check reports is that of the first state
 abbrev pub keeps_of : Request → Files → Report → Type 0
 keeps_of (check c) files report = IsOkAnd (case_read c.case files) (λ read. mass_of report ≡ mass (first read.1))
+keeps_of (tracer r) files report = IsOkAnd (case_read r.case files) (λ read. KeepsTracer r read.1 report)
 keeps_of request files report = IsOkAnd (job_of request files) (λ job. KeepsLaws job files report)
 
 abbrev pub name_of : Request → File → Option (List ℕ)
@@ -114,6 +139,7 @@ name_of (run r) Voxel = None
 name_of (run r) Checkpoint = r.resume
 name_of (run r) Out = Some r.out
 name_of (run r) Save = r.save
+name_of (run r) Trace = None
 name_of (check c) CaseFile = Some c.case
 name_of (check c) file = None
 name_of (demo d) Out = Some d.out
@@ -124,6 +150,9 @@ name_of (voxels v) Voxel = Some v.file
 name_of (voxels v) Checkpoint = v.run.resume
 name_of (voxels v) Out = Some v.run.out
 name_of (voxels v) Save = v.run.save
+name_of (voxels v) Trace = None
+name_of (tracer r) CaseFile = Some r.case
+name_of (tracer r) file = tracer_name r file
 
 -- what words ask
 abbrev pub asked_of : Request → Asked

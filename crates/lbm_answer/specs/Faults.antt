@@ -2,7 +2,7 @@
 use Rattle.std.specs.Prelude.{◌≡◌, List, ℕ, Option, Some, None}
 use Rattle.lbm_store.specs.Outside.{Counts, StoreState, Rose, SameBeside}
 use Rattle.lbm_answer.specs.declared.answer.File.{File}
-use Rattle.lbm_answer.specs.declared.answer.File.TheVariants.{CaseFile, Voxel, Checkpoint, Out, Save}
+use Rattle.lbm_answer.specs.declared.answer.File.TheVariants.{CaseFile, Voxel, Checkpoint, Out, Save, Trace}
 
 -- no fault was counted
 pub record NoFault (before after : StoreState) : Type 0 where
@@ -27,6 +27,7 @@ FaultRose name Voxel before after = NamedRose before.read_faults after.read_faul
 FaultRose name Checkpoint before after = NamedRose before.read_faults after.read_faults (name Checkpoint)
 FaultRose name Out before after = NamedRose before.write_faults after.write_faults (name Out)
 FaultRose name Save before after = NamedRose before.write_faults after.write_faults (name Save)
+FaultRose name Trace before after = NamedRose before.write_faults after.write_faults (name Trace)
 
 -- a fault of this file was counted, and no other
 abbrev pub NamedFault : (before after : Counts) → Option (List ℕ) → Type 0
@@ -39,3 +40,4 @@ FaultOf name Voxel before after = NamedFault before.read_faults after.read_fault
 FaultOf name Checkpoint before after = NamedFault before.read_faults after.read_faults (name Checkpoint) × (after.write_faults ≡ before.write_faults)
 FaultOf name Out before after = NamedFault before.write_faults after.write_faults (name Out) × (after.read_faults ≡ before.read_faults)
 FaultOf name Save before after = NamedFault before.write_faults after.write_faults (name Save) × (after.read_faults ≡ before.read_faults)
+FaultOf name Trace before after = NamedFault before.write_faults after.write_faults (name Trace) × (after.read_faults ≡ before.read_faults)

@@ -1,5 +1,5 @@
 -- What holds of every run.
-use Rattle.std.specs.Prelude.{◌≡◌, ◌⊎◌, ℕ, ◌≤◌, List, Option, Some, None, Ok, ℤ, pos, ◌+ℤ◌, ◌*ℤ◌}
+use Rattle.std.specs.Prelude.{◌≡◌, ◌⊎◌, ℕ, ◌≤◌, List, take, Option, Some, None, Ok, IsOkAnd, ℤ, pos, ◌+ℤ◌, ◌*ℤ◌}
 use Rattle.sha2.specs.Sha256.{sha256}
 use Rattle.lbm_store.specs.Outside.{Files, content}
 use Rattle.lbm_model.specs.Limits.{most_steps}
@@ -7,8 +7,8 @@ use Rattle.lbm_model.specs.Case.{FlowCase, IsCase, all_gain}
 use Rattle.lbm_model.specs.State.{FlowState, mass}
 use Rattle.lbm_model.specs.Flow.{first, reached, run as flow_run}
 use Rattle.lbm_ckpt.specs.Ckpt.{ckpt, ckpt_1}
-use Rattle.lbm_words.specs.Request.{Request, IsRequest, run, check, demo, voxels}
-use Rattle.lbm_answer.specs.Reports.{mass_of}
+use Rattle.lbm_words.specs.Request.{Request, Run, Tracer, IsRequest, run, check, demo, voxels, tracer}
+use Rattle.lbm_answer.specs.Reports.{mass_of, tracer_of}
 use Rattle.lbm_answer.specs.Outcome.{Finished, Job, job_of, job_outcome, outcome, written}
 
 -- These bytes are a checkpoint, of either version, of a run's case: of the state that the run from the first state reaches at a
@@ -31,6 +31,7 @@ resuming resume (run r) = run (record r { resume = resume })
 resuming resume (check c) = check c
 resuming resume (demo d) = demo d
 resuming resume (voxels v) = voxels (record v { run = record v.run { resume = resume } })
+resuming resume (tracer r) = tracer r
 
 -- and so it is with what is asked for in words
 abbrev pub ResumedRequest : Type 0
@@ -60,3 +61,19 @@ SaveLaw = (early late : Job) (files : Files) (name : List ℕ) (left : Finished)
     → IsCase early.case → early.case ≡ late.case → early.bytes ≡ late.bytes → early.steps ≤ late.steps → late.steps ≤ most_steps
     → job_outcome (record early { resume = None; save = Some name }) files ≡ Ok left
     → job_outcome (record late { resume = Some name }) (written left.files files) ≡ job_outcome (record late { resume = None }) files
+
+-- ---- runs with a tracer
+
+-- the run of the flow alone
+abbrev pub flow_of : Tracer → Run
+flow_of r = record { case = r.case; steps = r.steps; out = r.out; choice = r.choice; resume = None; save = None; format = r.format }
+
+-- the tracer leaves the flow as it is: a run with a tracer that is finished has written of the flow what the run of the flow alone writes,
+-- and reports the same mass
+abbrev pub TracerIsPassive : Type 0
+TracerIsPassive = (r : Tracer) (files : Files) (left : Finished) → outcome (tracer r) files ≡ Ok left
+    → IsOkAnd (outcome (run (flow_of r)) files) (λ flow. (take 1 left.files ≡ flow.files) × (mass_of left.report ≡ mass_of flow.report))
+
+-- nothing of the tracer is lost: such a run reports all of it
+abbrev pub TracerTotal : Type 0
+TracerTotal = (r : Tracer) (files : Files) (left : Finished) → outcome (tracer r) files ≡ Ok left → tracer_of left.report ≡ pos r.amount

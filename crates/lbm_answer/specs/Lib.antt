@@ -8,5 +8,6 @@ pub mod Answer
 pub mod Complete
 pub mod Files
 pub mod Jobs
+pub mod Tracers
 pub mod Laws
 pub mod Drift

@@ -10,11 +10,11 @@ use Rattle.lbm_ckpt.specs.declared.fault.CkptFault.TheVariants.{Short, Magic, Ot
 use Rattle.lbm_voxel.specs.declared.fault.VoxelFault.{VoxelFault}
 use Rattle.lbm_voxel.specs.declared.fault.VoxelFault.TheVariants.{Head, Word, Sides, Count, Value}
 use Rattle.lbm_answer.specs.declared.answer.File.{File}
-use Rattle.lbm_answer.specs.declared.answer.File.TheVariants.{CaseFile, Voxel, Checkpoint, Out, Save}
+use Rattle.lbm_answer.specs.declared.answer.File.TheVariants.{CaseFile, Voxel, Checkpoint, Out, Save, Trace}
 use Rattle.lbm_answer.specs.declared.answer.End.{End}
-use Rattle.lbm_answer.specs.declared.answer.End.TheVariants.{Done, Usage, Case, TooLong, Voxel as BadVoxel, Cut, Checkpoint as BadCheckpoint, Past, Range, StoreFault, SinkFault, Memory}
+use Rattle.lbm_answer.specs.declared.answer.End.TheVariants.{Done, Usage, Case, TooLong, Voxel as BadVoxel, Cut, Spot, Checkpoint as BadCheckpoint, Past, Range, TracerRange, StoreFault, SinkFault, Memory}
 use Rattle.lbm_answer.specs.declared.report.Report.{Report}
-use Rattle.lbm_answer.specs.declared.report.Report.TheVariants.{Run, Check}
+use Rattle.lbm_answer.specs.declared.report.Report.TheVariants.{Run, Check, Tracer}
 
 -- the status with which the program ends
 abbrev pub status_of : End → ℕ
@@ -24,9 +24,11 @@ status_of (Case fault) = 3
 status_of (TooLong file) = 3
 status_of (BadVoxel fault) = 3
 status_of (Cut k) = 3
+status_of (Spot cell) = 3
 status_of (BadCheckpoint fault) = 4
 status_of (Past at to) = 4
 status_of (Range step cell) = 5
+status_of (TracerRange step cell) = 5
 status_of (StoreFault file) = 6
 status_of SinkFault = 6
 status_of Memory = 7
@@ -76,6 +78,7 @@ file_word Voxel = codes "voxel"
 file_word Checkpoint = codes "checkpoint"
 file_word Out = codes "out"
 file_word Save = codes "save"
+file_word Trace = codes "trace"
 
 -- the line of an answer that is no report
 abbrev pub line_of : End → List ℕ
@@ -85,9 +88,11 @@ line_of (Case fault) = codes "refused: " ++ fault_of fault ++ codes "\n"
 line_of (TooLong file) = codes "refused: " ++ file_word file ++ codes " too long\n"
 line_of (BadVoxel fault) = codes "refused: voxel " ++ voxel_fault_of fault ++ codes "\n"
 line_of (Cut k) = codes "refused: cut " ++ decimal k ++ codes "\n"
+line_of (Spot cell) = codes "refused: spot " ++ decimal cell ++ codes "\n"
 line_of (BadCheckpoint fault) = codes "refused: checkpoint " ++ checkpoint_fault_of fault ++ codes "\n"
 line_of (Past at to) = codes "refused: checkpoint step " ++ decimal at ++ codes " is past " ++ decimal to ++ codes "\n"
 line_of (Range step cell) = codes "range: step " ++ decimal step ++ codes " cell " ++ decimal cell ++ codes "\n"
+line_of (TracerRange step cell) = codes "range: tracer step " ++ decimal step ++ codes " cell " ++ decimal cell ++ codes "\n"
 line_of (StoreFault file) = codes "fault: " ++ file_word file ++ codes "\n"
 line_of SinkFault = []
 line_of Memory = codes "out of memory\n"
@@ -103,3 +108,5 @@ report_line (Check r) =
     ++ codes " " ++ decimal (slice_index r.sides 0) ++ codes " " ++ decimal (slice_index r.sides 1) ++ codes " " ++ decimal (slice_index r.sides 2)
     ++ codes " fluid " ++ decimal r.fluid ++ codes " solid " ++ decimal r.solid ++ codes " mass " ++ signed_decimal r.mass
     ++ codes "\n"
+report_line (Tracer r) =
+    codes "step " ++ decimal r.step ++ codes " mass " ++ signed_decimal r.mass ++ codes " tracer " ++ signed_decimal r.tracer ++ codes "\n"

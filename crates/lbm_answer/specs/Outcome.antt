@@ -1,13 +1,13 @@
 -- What a request comes to, over files whose bytes are known. No pattern, worker or piece is known here.
-use Rattle.std.specs.Prelude.{◌≡◌, ◌⊎◌, ℕ, zero, suc, ◌-◌, List, [], ◌∷◌, ◌++◌, length, Bool, ◌&&◌, nat_le, nat_lt, slice_index, Option, Some, None, Result, Ok, Err}
+use Rattle.std.specs.Prelude.{◌≡◌, ◌⊎◌, ℕ, zero, suc, ◌-◌, List, [], ◌∷◌, ◌++◌, length, Bool, not, ◌&&◌, nat_le, nat_lt, slice_index, Option, Some, None, Result, Ok, Err}
 use Rattle.std.specs.Option.{ForSome}
 use Rattle.sha2.specs.Sha256.{sha256}
-use Rattle.lbm_space.specs.Torus.{Torus, rows}
+use Rattle.lbm_space.specs.Torus.{Torus, cells, rows}
 use Rattle.lbm_space.specs.Cuttings.{row_before}
 use Rattle.lbm_store.specs.Outside.{Files, StoreState, with, content, SomeFront}
 use Rattle.lbm_model.specs.Refusals.{◌>>=◌, demand}
 use Rattle.lbm_model.specs.State.{FlowState}
-use Rattle.lbm_model.specs.Case.{FlowCase}
+use Rattle.lbm_model.specs.Case.{FlowCase, is_solid}
 use Rattle.lbm_cell.specs.Least.{least_failing}
 use Rattle.lbm_model.specs.Flow.{RunEnd, reached, range, first, run as flow_run}
 use Rattle.lbm_case.specs.declared.fault.CaseFault.{CaseFault}
@@ -18,14 +18,16 @@ use Rattle.lbm_vtk.specs.declared.Format.{Format}
 use Rattle.lbm_vtk.specs.Vtk.{vtk}
 use Rattle.lbm_voxel.specs.declared.fault.VoxelFault.{VoxelFault}
 use Rattle.lbm_voxel.specs.Voxels.{voxels_of}
-use Rattle.lbm_words.specs.Request.{Request, Run, Demo, run, check, demo, voxels}
+use Rattle.lbm_tracer.specs.Tracing.{TracerRun, reached as both_reached, range as flow_range, tracer_range, tracer_first, tracer_run}
+use Rattle.lbm_tracer.specs.Trace.{trace}
+use Rattle.lbm_words.specs.Request.{Request, Run, Demo, Tracer, run, check, demo, voxels, tracer}
 use Rattle.lbm_answer.specs.declared.answer.End.{End}
-use Rattle.lbm_answer.specs.declared.answer.End.TheVariants.{Usage, Case, TooLong, Voxel as BadVoxel, Cut, Checkpoint as BadCheckpoint, Past, Range}
+use Rattle.lbm_answer.specs.declared.answer.End.TheVariants.{Usage, Case, TooLong, Voxel as BadVoxel, Cut, Spot, Checkpoint as BadCheckpoint, Past, Range, TracerRange}
 use Rattle.lbm_answer.specs.declared.answer.File.{File}
 use Rattle.lbm_answer.specs.declared.answer.File.TheVariants.{CaseFile, Voxel, Checkpoint}
 use Rattle.lbm_answer.specs.declared.report.Report.{Report}
 use Rattle.lbm_answer.specs.Gen.{gen}
-use Rattle.lbm_answer.specs.Reports.{printed_moments, run_report, check_report}
+use Rattle.lbm_answer.specs.Reports.{printed_moments, printed_amounts, run_report, check_report, tracer_report}
 
 -- a file that is written: its name, and all its bytes
 pub record Written : Type 0 where
@@ -96,12 +98,13 @@ abbrev pub demo_job : Demo → FlowCase → Job
 demo_job d case = record { case = case; bytes = gen d.n; steps = d.steps; out = d.out; cut = d.choice.cut; resume = None; save = d.save; format = d.format }
 
 -- The run of a request, where its case is not refused. In the geometry of a voxel file it is told by the bytes of the case
--- file and then by those of the voxel file. A check asks for none.
+-- file and then by those of the voxel file. A check asks for none, and a run with a tracer has an outcome of its own.
 unfoldable pub job_of : Request → Files → Result Job End
 job_of (run r) files = do
   read ← case_read r.case files
   Ok (run_job r read.1 read.0)
 job_of (check c) files = Err Usage
+job_of (tracer r) files = Err Usage
 job_of (demo d) files = do
   case ← spelled (case_of (gen d.n))
   Ok (demo_job d case)
@@ -194,11 +197,46 @@ job_outcome job files = do
 abbrev pub checked : FlowCase → Finished
 checked case = record { files = []; report = check_report case }
 
+-- ---- a run with a tracer
+
+-- whether a tracer may begin here: in a fluid cell
+abbrev pub is_spot : FlowCase → ℕ → Bool
+is_spot case cell = nat_lt cell (cells case.torus) && not (is_solid case cell)
+
+-- what the states leave that the flow and its tracer have reached
+abbrev pub traced_files : Tracer → FlowCase → (flow tracer : FlowState) → List Written
+traced_files r case s g =
+    record { name = r.out; bytes = vtk_of case r.steps s r.format }
+    ∷ record { name = r.trace; bytes = trace case.torus r.steps (printed_amounts case g) }
+    ∷ []
+
+-- what the end of the run comes to
+abbrev pub traced : Tracer → FlowCase → TracerRun → Result Finished End
+traced r case (both_reached s g) = Ok (record { files = traced_files r case s g; report = tracer_report r.steps s g })
+traced r case (flow_range step cell) = Err (Range step cell)
+traced r case (tracer_range step cell) = Err (TracerRange step cell)
+
+-- the run of the flow and its tracer from their first states
+abbrev pub traced_run : Tracer → FlowCase → TracerRun
+traced_run r case = tracer_run case r.rates (first case) (tracer_first case.torus r.amount r.cell) 0 r.steps
+
+-- what a run of a case with a tracer comes to
+unfoldable pub tracer_outcome : Tracer → FlowCase → Result Finished End
+tracer_outcome r case = do
+  whole ← uncut (bad_cut case.torus r.choice.cut)
+  fluid ← demand (is_spot case r.cell) (Spot r.cell)
+  traced r case (traced_run r case)
+
+-- ---- a request
+
 -- The first refusal that applies, or what is left.
 unfoldable pub outcome : Request → Files → Result Finished End
 outcome (check c) files = do
   read ← case_read c.case files
   Ok (checked read.1)
+outcome (tracer r) files = do
+  read ← case_read r.case files
+  tracer_outcome r read.1
 outcome request files = do
   job ← job_of request files
   job_outcome job files

@@ -8,8 +8,9 @@ use Rattle.lbm_cell.specs.Moments.{density, momentum_part}
 use Rattle.lbm_model.specs.State.{FlowState, population, mass}
 use Rattle.lbm_model.specs.Case.{FlowCase, is_solid}
 use Rattle.lbm_model.specs.Flow.{first}
+use Rattle.lbm_tracer.specs.Tracing.{set_in}
 use Rattle.lbm_answer.specs.declared.report.Report.{Report}
-use Rattle.lbm_answer.specs.declared.report.Report.TheVariants.{Run, Check}
+use Rattle.lbm_answer.specs.declared.report.Report.TheVariants.{Run, Check, Tracer}
 
 -- the density and the momentum of a cell
 abbrev pub moment_of : Stencil → (ℕ → ℤ) → Moment
@@ -24,6 +25,13 @@ printed_moment case s x = if is_solid case x then no_moment else moment_of case.
 
 abbrev pub printed_moments : FlowCase → FlowState → List Moment
 printed_moments case s = list_below (cells case.torus) (printed_moment case s)
+
+-- what is printed of a cell of a tracer: its amount, or 0 where it is solid
+abbrev pub printed_amount : FlowCase → FlowState → ℕ → ℤ
+printed_amount case g x = if is_solid case x then pos 0 else density (set_in case.torus) (population g x)
+
+abbrev pub printed_amounts : FlowCase → FlowState → List ℤ
+printed_amounts case g = list_below (cells case.torus) (printed_amount case g)
 
 -- a part of a momentum: 0 is x, 1 is y and 2 is z
 abbrev pub moment_part : Moment → ℕ → ℤ
@@ -45,6 +53,10 @@ run_report case step s =
     let moments = printed_moments case s in
     Run (record { step = step; mass = mass s; momentum = total (λ m. m.jx) moments ∷ total (λ m. m.jy) moments ∷ total (λ m. m.jz) moments ∷ [] })
 
+-- the step, the mass of the flow's state, and the sum of all amounts of the tracer's
+abbrev pub tracer_report : ℕ → (flow tracer : FlowState) → Report
+tracer_report step s g = Tracer (record { step = step; mass = mass s; tracer = mass g })
+
 -- how many of the first n cells are solid
 abbrev pub solid_below : FlowCase → ℕ → ℕ
 solid_below case zero = 0
@@ -60,8 +72,16 @@ check_report case =
 abbrev pub mass_of : Report → ℤ
 mass_of (Run r) = r.mass
 mass_of (Check r) = r.mass
+mass_of (Tracer r) = r.mass
 
--- a part of the momentum that it tells; a check tells none
+-- a part of the momentum that it tells; a check and a run with a tracer tell none
 abbrev pub momentum_of : Report → ℕ → ℤ
 momentum_of (Run r) a = part r.momentum a
 momentum_of (Check r) a = pos 0
+momentum_of (Tracer r) a = pos 0
+
+-- how much of a tracer it tells; there is none without one
+abbrev pub tracer_of : Report → ℤ
+tracer_of (Run r) = pos 0
+tracer_of (Check r) = pos 0
+tracer_of (Tracer r) = r.tracer

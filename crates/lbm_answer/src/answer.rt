@@ -24,6 +24,8 @@ pub enum File {
     Out,
     /// The file that the last state is saved in.
     Save,
+    /// The file that the amounts of a tracer are written to.
+    Trace,
 }
 
 /// What a call answers.
@@ -41,12 +43,16 @@ pub enum End {
     Voxel(VoxelFault),
     /// This entry of `--cut`, counted from 0, is the first that is not above the one before it, or is no row.
     Cut(u32),
+    /// A tracer cannot begin here: it is no cell, or a solid one.
+    Spot(u32),
     /// The checkpoint is refused.
     Checkpoint(CkptFault),
     /// The step of the checkpoint, `at`, is past the last step, `to`.
     Past { at: u64, to: u64 },
     /// This is the first step of the run with a cell out of limits, and the least such cell.
     Range { step: u64, cell: u32 },
+    /// This is the first step of the run at which the tracer has a cell out of limits, and the least such cell.
+    TracerRange { step: u64, cell: u32 },
     /// The store could not read or write this file.
     StoreFault(File),
     /// The sink did not take the report.
@@ -134,9 +140,9 @@ impl End {
         match self {
             End::Done => 0,
             End::Usage => 2,
-            End::Case(_) | End::TooLong(_) | End::Voxel(_) | End::Cut(_) => 3,
+            End::Case(_) | End::TooLong(_) | End::Voxel(_) | End::Cut(_) | End::Spot(_) => 3,
             End::Checkpoint(_) | End::Past { .. } => 4,
-            End::Range { .. } => 5,
+            End::Range { .. } | End::TracerRange { .. } => 5,
             End::StoreFault(_) | End::SinkFault => 6,
             End::Memory => 7,
         }

@@ -1,8 +1,8 @@
 //! What holds of every run.
 //!
-//! The function does nothing: its contract is the theorem.
+//! The functions do nothing: their contracts are the theorems.
 
-ghost use Rattle.lbm_answer.specs.Laws.{RequestedMass, ResumeLaw, ResumedMass, ResumedRequest, SaveLaw};
+ghost use Rattle.lbm_answer.specs.Laws.{RequestedMass, ResumeLaw, ResumedMass, ResumedRequest, SaveLaw, TracerIsPassive, TracerTotal};
 
 /// A run that goes on from a checkpoint comes to what the whole run comes to, where the checkpoint, of either version, is
 /// of the same case bytes and of the state that the run from the first state reaches at a step up to the last one. The
@@ -14,4 +14,11 @@ pub fn resume_law()
     ensures mass { ResumedMass }
     ensures request_mass { RequestedMass }
     ensures saved { SaveLaw }
+{}
+
+/// A tracer leaves its flow as it is, and none of it is lost: a run with a tracer that is finished has written of the flow
+/// what the run of the flow alone writes, and reports the same mass and the whole amount of the tracer.
+pub fn tracer_law()
+    ensures passive { TracerIsPassive }
+    ensures total { TracerTotal }
 {}

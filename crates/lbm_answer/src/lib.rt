@@ -18,6 +18,7 @@ mod save;
 mod state;
 mod sums;
 mod telling;
+mod tracer;
 
 pub use answer::{End, File};
 pub use beginning::{Beginning, begin};
@@ -27,8 +28,9 @@ pub use generated::gen_case;
 pub use job::{Job, cutting_of};
 pub use left::{Left, conclude};
 pub use measures::moments;
-pub use report::{CheckReport, Report, RunReport};
+pub use report::{CheckReport, Report, RunReport, TracerReport};
 pub use save::save_all;
 pub use state::state_of;
 pub use sums::mass;
 pub use telling::tell;
+pub use tracer::{Traced, place_tracer, save_traced};

@@ -5,7 +5,7 @@ ghost use Rattle.lbm_answer.specs.declared.report.Report.TheVariants as Report;
 ghost use Rattle.lbm_answer.specs.Lines.{checkpoint_fault_of, file_word, line_of, report_line};
 
 use crate::refusals::{case_line, voxel_line};
-use crate::{CheckReport, End, File, Report, RunReport};
+use crate::{CheckReport, End, File, Report, RunReport, TracerReport};
 use arrayvec::ArrayString;
 use itoa::{Buffer, Integer};
 use lbm_ckpt::CkptFault;
@@ -20,6 +20,7 @@ pub(crate) fn report_line(report: &Report) -> Line
     match report {
         Report::Run(report) => run_line(report),
         Report::Check(report) => check_line(report),
+        Report::Tracer(report) => tracer_line(report),
     }
 }
 
@@ -52,6 +53,17 @@ fn check_line(report: &CheckReport) -> Line
     line
 }
 
+fn tracer_line(report: &TracerReport) -> Line
+    ensures { result.bytes ≡ report_line (Report.Tracer report.now) }
+{
+    let mut line = Line::new();
+    put_number(&mut line, "step ", report.step);
+    put_number(&mut line, " mass ", report.mass);
+    put_number(&mut line, " tracer ", report.tracer);
+    line.push_str("\n");
+    line
+}
+
 /// The line of an answer that is no report.
 pub(crate) fn line_of(end: &End) -> Line
     ensures { result.bytes ≡ line_of end.now }
@@ -63,11 +75,13 @@ pub(crate) fn line_of(end: &End) -> Line
         End::TooLong(file) => line_of_three("refused: ", word_of(*file), " too long\n"),
         End::Voxel(fault) => voxel_line(*fault),
         End::Cut(k) => cut_line(*k),
+        End::Spot(cell) => spot_line(*cell),
         End::Checkpoint(fault) => {
             line_of_three("refused: checkpoint ", checkpoint_word(*fault), "\n")
         }
         End::Past { at, to } => past_line(*at, *to),
         End::Range { step, cell } => range_line(*step, *cell),
+        End::TracerRange { step, cell } => tracer_range_line(*step, *cell),
         End::StoreFault(file) => line_of_three("fault: ", word_of(*file), "\n"),
         End::Memory => line_with("out of memory\n"),
     }
@@ -84,6 +98,7 @@ fn word_of(file: File) -> &'static str
         File::Checkpoint => "checkpoint",
         File::Out => "out",
         File::Save => "save",
+        File::Trace => "trace",
     }
 }
 
@@ -123,6 +138,15 @@ fn cut_line(k: u32) -> Line
     line
 }
 
+fn spot_line(cell: u32) -> Line
+    ensures { result.bytes ≡ line_of (End.Spot cell) }
+{
+    let mut line = Line::new();
+    put_number(&mut line, "refused: spot ", cell);
+    line.push_str("\n");
+    line
+}
+
 fn past_line(at: u64, to: u64) -> Line
     ensures { result.bytes ≡ line_of (End.Past at to) }
 {
@@ -138,6 +162,16 @@ fn range_line(step: u64, cell: u32) -> Line
 {
     let mut line = Line::new();
     put_number(&mut line, "range: step ", step);
+    put_number(&mut line, " cell ", cell);
+    line.push_str("\n");
+    line
+}
+
+fn tracer_range_line(step: u64, cell: u32) -> Line
+    ensures { result.bytes ≡ line_of (End.TracerRange step cell) }
+{
+    let mut line = Line::new();
+    put_number(&mut line, "range: tracer step ", step);
     put_number(&mut line, " cell ", cell);
     line.push_str("\n");
     line

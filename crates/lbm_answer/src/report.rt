@@ -28,6 +28,17 @@ pub struct CheckReport {
     pub mass: i64,
 }
 
+/// What is told of a run with a tracer.
+#[derive(Clone, Copy, Debug, PartialEq, Eq)]
+pub struct TracerReport {
+    /// The step of the last states.
+    pub step: u64,
+    /// The sum of all populations of all cells, walls included.
+    pub mass: i64,
+    /// The sum of all amounts of the tracer, walls included.
+    pub tracer: i64,
+}
+
 /// What the line of a call that nothing has stopped tells.
 #[derive(Clone, Copy, Debug, PartialEq, Eq)]
 pub enum Report {
@@ -35,4 +46,6 @@ pub enum Report {
     Run(RunReport),
     /// Of a check.
     Check(CheckReport),
+    /// Of a run with a tracer.
+    Tracer(TracerReport),
 }

@@ -28,8 +28,13 @@ pub fn save_all<T: Store>(store: &mut T, job: &Job<'_, '_>, left: &Left) -> Resu
     }
 }
 
-// The file of densities and momenta.
-fn save_moments<T: Store>(store: &mut T, name: &str, left: &Left, format: Format) -> Result<(), End>
+/// Writes the file of densities and momenta.
+pub(crate) fn save_moments<T: Store>(
+    store: &mut T,
+    name: &str,
+    left: &Left,
+    format: Format,
+) -> Result<(), End>
     requires { IsLeft left.now }
     ensures saved { SavesFile File.Out (record { name = name.now; bytes = vtk left.now.space left.now.report.step left.now.moments.items format }) (T.state store.old) (T.state store.new) result }
     ensures read_faults { (T.state store.new).read_faults ≡ (T.state store.old).read_faults }

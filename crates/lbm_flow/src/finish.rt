@@ -8,6 +8,7 @@ ghost use Rattle.lbm_answer.specs.Jobs.{CanBegin, Finishes, beginning_view};
 ghost use Rattle.lbm_flow.specs.Running.{beginning_of, Reaches};
 
 use crate::End;
+use crate::pattern::at_pattern;
 use crate::run::run_pattern;
 use lbm_aa::AaSteps;
 use lbm_answer::{Beginning, Left, conclude, state_of};
@@ -70,17 +71,13 @@ fn finish_by<V: VelocitySet + Sync, A: Allocator + Copy, G: Gate, R: Threads + S
     requires division { IsDivision (row_count course.case.torus) course.division.per_tile course.division.workers }
     ensures { Finishes course.case course.steps (beginning_view course.begin) result }
 {
-    match pattern {
-        PatternKind::Two => {
-            finish_in::<V, A, TwoLattices<A>, G, R>(rt, alloc, heap, course, gate)
-        }
-        PatternKind::Swap => finish_in::<V, A, SwapPasses, G, R>(rt, alloc, heap, course, gate),
-        PatternKind::Grid => {
-            finish_in::<V, A, GridSweeps<A>, G, R>(rt, alloc, heap, course, gate)
-        }
-        PatternKind::Aa => finish_in::<V, A, AaSteps, G, R>(rt, alloc, heap, course, gate),
-        PatternKind::Tiles => finish_in_tiles::<V, G, R>(rt, alloc, course, gate),
-    }
+    at_pattern!(
+        pattern,
+        V,
+        A,
+        finish_in::<G, R>(rt, alloc, heap, course, gate),
+        finish_in_tiles::<V, G, R>(rt, alloc, course, gate)
+    )
 }
 
 // The same by one of the patterns over arrays.

@@ -1,17 +1,18 @@
 // The top call.
 ghost use Rattle.std.specs.Prelude.{◌≡◌, map, string_bytes};
-ghost use Rattle.lbm_words.specs.Request.{IsRun, IsDemo, IsVoxels, run, demo, voxels, run_view, demo_view, voxels_view};
+ghost use Rattle.lbm_words.specs.Request.{IsRun, IsDemo, IsVoxels, IsTracer, run, demo, voxels, tracer, run_view, demo_view, voxels_view, tracer_view};
 ghost use Rattle.lbm_words.specs.Words.{request_of};
 ghost use Rattle.lbm_answer.specs.Answer.{Answers, Decides, DecidesFor, asked_of};
 ghost use Rattle.lbm_answer.specs.Complete.{IsComplete};
 
 use crate::job::do_job;
+use crate::tracer_job::do_tracer_job;
 use crate::{End, Report, gen_case};
 use lbm_answer::{Job, decide_check, read_case_file, read_voxel_file, tell};
 use lbm_case::read_case;
 use lbm_model::Gate;
 use lbm_store::{Sink, Store};
-use lbm_words::{Demo, Request, Run, Voxels, request_of};
+use lbm_words::{Demo, Request, Run, Tracer, Voxels, request_of};
 use std::alloc::{Allocator, Global};
 use std::marker::Sync;
 use std::thread::Threads;
@@ -19,8 +20,8 @@ use std::thread::Threads;
 /// Does what the words after the program's name ask for, and answers: `run CASE STEPS OUT` runs the case of a file over
 /// so many steps, writes densities and momenta as a legacy VTK file, and tells the sink a line; `check CASE` tells one of
 /// the case; `demo N STEPS OUT` runs a generated case; `voxels FILE CASE STEPS OUT` runs the case of a file in the geometry
-/// of a voxel file. The lattice's memory is that of `heap`. The gate is entered once
-/// before each piece of a step.
+/// of a voxel file; `tracer CASE STEPS OUT TRACE AMOUNT CELL` lets the flow carry a tracer, and writes its amounts as well. The
+/// memory of the lattice and of the tracer is that of `heap`. The gate is entered once before each piece of a step.
 ///
 /// The contract says which answer comes, what it leaves in the store, and what the sink has got. It speaks of the plain
 /// two-lattice definition alone, whatever pattern, workers and cutting the words ask for.
@@ -60,6 +61,7 @@ fn decide<T: Store, A: Allocator + Copy, G: Gate, R: Threads + Sync>(
         Request::Check(check) => decide_check(alloc, check, store),
         Request::Demo(demo) => decide_demo(rt, alloc, heap, demo, store, gate),
         Request::Voxels(voxels) => decide_voxels(rt, alloc, heap, voxels, store, gate),
+        Request::Tracer(tracer) => decide_tracer(rt, alloc, heap, &tracer, store, gate),
     }
 }
 
@@ -156,4 +158,19 @@ fn decide_voxels<T: Store, A: Allocator + Copy, G: Gate, R: Threads + Sync>(
         format: run.format,
     };
     do_job(rt, alloc, heap, case, &job, store, gate)
+}
+
+fn decide_tracer<T: Store, A: Allocator + Copy, G: Gate, R: Threads + Sync>(
+    rt: &R,
+    alloc: Global,
+    heap: A,
+    request: &Tracer<'_>,
+    store: &mut T,
+    gate: &G,
+) -> Result<Report, End>
+    requires { IsTracer (tracer_view request.now) }
+    ensures { DecidesFor (asked_of (tracer (tracer_view request.now))) (T.state store.old) (T.state store.new) result }
+{
+    let (_, case) = read_case_file(alloc, store, request.case)?;
+    do_tracer_job(rt, alloc, heap, case, request, store, gate)
 }

@@ -9,6 +9,7 @@ ghost use Rattle.lbm_model.specs.Small.{IsNarrow};
 ghost use Rattle.lbm_model.specs.Layout.{StandsIn};
 ghost use Rattle.lbm_sweep.specs.Lattices.{standing_by};
 
+use crate::reading::read_row;
 use crate::{NoServing, Pattern, Propagation, Serves};
 use lbm_arrays::{Forks, Region};
 use lbm_model::{Case, Gate, Lattice, State, StepEnd};
@@ -132,6 +133,11 @@ where
     type Work = P::Work;
 
     type Turns = NoServing;
+
+    fn read_row(&self, row: u32, dir: u32, pops: &mut [i64]) {
+        let layout = P::layout_at(&self.case, self.time);
+        read_row::<V, A>(&self.region, &self.case, layout, row, dir, pops);
+    }
 
     fn step_by<C: Forks<P::Work>, S: Serves<NoServing>>(
         &mut self,

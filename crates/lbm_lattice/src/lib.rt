@@ -10,6 +10,7 @@ mod idle;
 mod in_place;
 mod pattern;
 mod propagation;
+mod reading;
 mod serving;
 
 pub use array_lattice::ArrayLattice;

@@ -1,6 +1,6 @@
 //! Lattices that step.
 
-ghost use Rattle.std.specs.Prelude.{◌≡◌, ℕ, ◌*◌, ◌<◌, ◌≤◌, All, length};
+ghost use Rattle.std.specs.Prelude.{◌≡◌, ℕ, ◌*◌, ◌<◌, ◌≤◌, All, IsNone, length};
 ghost use Rattle.arrayvec.specs.ArrayVec.{array_vec_len};
 ghost use Rattle.lbm_space.specs.Torus.{padded, rows as row_count};
 ghost use Rattle.lbm_space.specs.Cuttings.{slabs_of, rows_of};
@@ -8,6 +8,7 @@ ghost use Rattle.lbm_model.specs.Limits.{most_steps};
 ghost use Rattle.lbm_model.specs.Standing.{StepGives};
 ghost use Rattle.lbm_arrays.specs.Arrays.{array_size, held};
 ghost use Rattle.lbm_arrays.specs.LentRanges.{lent, slab_rows, AreInside, AreLent, IsLent, IsForked};
+ghost use Rattle.lbm_lattice.specs.Rows.{IsRead};
 
 use crate::serving::{Servers, Serves, Serving, serve_past};
 use lbm_arrays::{Forks, Hands, Inputs, Lending, Pass, PieceWork, Viewed, fork};
@@ -39,6 +40,20 @@ pub trait Pattern<G: Gate>: Lattice {
         requires able { C.forks crew.now }
         requires served { S.serves servers.now }
         ensures { StepGives Self.WANTS_MEMORY (Self.standing self.old) (Self.standing self.new) result };
+
+    /// Population `dir` of each cell of a row, into a list that has as many places as a row has cells.
+    fn read_row(&self, row: u32, dir: u32, pops: &mut [i64])
+        requires not_spent { IsNone (Self.standing self.now).spent }
+        requires row { row < row_count (Self.standing self.now).case.torus }
+        requires direction { dir < (Self.standing self.now).case.stencil.directions }
+        requires room { length pops.old ≡ (Self.standing self.now).case.torus.nx }
+        ensures { IsRead (Self.standing self.now) row dir pops.new }
+    {
+        let width = self.case().space().sides()[0];
+        for x in 0..width {
+            pops[x as usize] = self.get(row * width + x, dir);
+        }
+    }
 
     /// Goes on to the next state where all cells are in limits, and else names the least cell that is not, or the one that
     /// spent the lattice before. The time is below 1,000,000. The gate is entered once before each piece of the step, from

@@ -4,11 +4,10 @@ use Rattle.std.specs.Prelude.{Option, None, if◌then◌else◌, slice_index_or}
 use Rattle.std.proofs.lemmas.Int.{ints}
 use Rattle.std.proofs.lemmas.List.{places}
 use Rattle.std.proofs.lemmas.Nat.{div-mul-add, mod-mul-add, mod_below, mul-add-lt}
-use Rattle.lbm_space.specs.Stencil.{opposite}
 use Rattle.lbm_space.specs.Torus.{cells, rows, x_of}
 use Rattle.lbm_walk.proofs.Places.{row_known}
 use Rattle.lbm_model.specs.State.{FlowState, population}
-use Rattle.lbm_model.specs.Case.{FlowCase, IsCase, is_solid, source, target}
+use Rattle.lbm_model.specs.Case.{FlowCase, IsCase, is_solid}
 use Rattle.lbm_model.specs.Flow.{IsStateOf, is_sound}
 use Rattle.lbm_model.specs.Layout.{array_of, stands_at, aa_layout}
 use Rattle.lbm_model.specs.Small.{size_limit, IsSmall}
@@ -18,8 +17,8 @@ use Rattle.lbm_model.proofs.Neighbours.{source_known, target-source}
 use Rattle.lbm_model.proofs.SmallStates.{small-next}
 use Rattle.lbm_model.proofs.States.{population-state_by, state_by-is}
 use Rattle.lbm_sweep.specs.Steps.{IsStepTo}
-use Rattle.lbm_rows.specs.Kept.{AreKept, placed, slot_of_cell, population_kept, state_kept}
-use Rattle.lbm_rows.specs.Tiles.{KeptLattice, standing_in, StandInRow, IsKeptLattice}
+use Rattle.lbm_rows.specs.Kept.{placed, population_kept, state_kept}
+use Rattle.lbm_rows.specs.Tiles.{KeptLattice, standing_in, StandInRow}
 use Rattle.lbm_rows.proofs.Touching.{array_known}
 use Rattle.lbm_rows.proofs.KeptSteps.{layout_when}
 

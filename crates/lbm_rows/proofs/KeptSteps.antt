@@ -26,7 +26,7 @@ module _ (case : FlowCase) (allowed : IsCase case) where
 
   module _ (time : ℕ) where
     -- a cell takes its populations from the slots that it touches
-    stands_touched : (x i : ℕ) → i < case.stencil.directions → stands_at case (aa_layout time) x i ≡ touched case time (array_of case.stencil (aa_layout time) i) x
+    pub stands_touched : (x i : ℕ) → i < case.stencil.directions → stands_at case (aa_layout time) x i ≡ touched case time (array_of case.stencil (aa_layout time) i) x
     stands_touched x i known = stands_by (nat_eq (time % 2) 0) x i known
 
     -- and what it sends stands there

@@ -12,3 +12,5 @@ pub mod Results
 pub mod Cuts
 pub mod KeptStates
 pub mod StepMade
+pub mod CellRows
+pub mod TileBlocks

@@ -25,6 +25,9 @@ around_high width start x end below =
     let e : x + start + (width - 1) ≡ width + width = omega arith in
     ap (λ (m : ℕ). 1 + m % width) e ∙ ap (λ (m : ℕ). 1 + m) (let f : width + width ≡ 2 * width + 0 = omega arith in ap (λ (m : ℕ). m % width) f ∙ mod-mul-add 2 width 0 (omega arith))
 
+pub around_none : (width start x : ℕ) → start + x ≡ 0 → x < width → around width start x ≡ width
+around_none width start x none below = let a : start ≡ 0 = omega arith in let b : x ≡ 0 = omega arith in (λ j. around width (a j) (b j)) ∙ around_low width (omega arith)
+
 -- one step up and one step down on a ring
 up : (n a : ℕ) → a < n → 1 + (a + 1) % n ≡ around n 2 a
 up n a below = elim (cases_lt (a + 1) n) [

@@ -75,6 +75,10 @@ module _ (v : Stencil) (laws : IsVelocitySet v) where
   few_by true k known = omega arith
   few_by false k known = let unit = laws.unit_parts k 0 known (lit< tt) in omega (arith, ints, unit)
 
+  -- the first cell's slot is one of three
+  pub start_few : (time k : ℕ) → k < v.directions → start v time k ≤ 2
+  start_few time k known = few_by (nat_eq (time % 2) 0) k known
+
   module _ (time height : ℕ) (some : 0 < height) (w : Ways) (ways : AreWays v time height w) where
     pub ways_exchange : IsExchange v w
     ways_exchange = record {
@@ -83,7 +87,7 @@ module _ (v : Stencil) (laws : IsVelocitySet v) where
       distinct = λ i j known known' same.
           let e : array_of v (aa_layout time) i * height ≡ array_of v (aa_layout time) j * height = sym (ways.takes i known) ∙ same ∙ ways.takes j known' in
           array_distinct time i j known known' (same_quotient (array_of v (aa_layout time) i) (array_of v (aa_layout time) j) height 0 0 some some (omega (arith, e))).0;
-      starts = λ i known. subst (λ (n : ℕ). n ≤ 2) (sym (ways.from i known)) (few_by (nat_eq (time % 2) 0) (array_of v (aa_layout time) i) (array_known time i known));
+      starts = λ i known. subst (λ (n : ℕ). n ≤ 2) (sym (ways.from i known)) (start_few time (array_of v (aa_layout time) i) (array_known time i known));
       puts = λ i known. ways.puts i known ∙ ap (λ (k : ℕ). k * height) (exchanged time i known) ∙ sym (ways.takes (opposite v i) (laws.opposite_exists i known));
       to = λ i known. ways.to i known ∙ ap (start v time) (exchanged time i known) ∙ sym (ways.from (opposite v i) (laws.opposite_exists i known));
     }

@@ -5,3 +5,4 @@ pub mod Division
 pub mod TileRows
 pub mod Laws
 pub mod Tiles
+pub mod CellRows

@@ -9,7 +9,7 @@ ghost use Rattle.lbm_rows.specs.TileRows.{with_pads, without_pads};
 
 use crate::slots;
 use lbm_space::Space;
-use lbm_sweep::lanes_at;
+use lbm_sweep::{eight_at, lanes_at};
 use std::marker::Model;
 
 /// The slots of one direction for a row of cells. Contracts see it as their list.
@@ -41,8 +41,26 @@ impl KeptRow {
         self.slots.as_slice()
     }
 
+    /// The eight slots from slot `first` on.
+    #[inline]
+    pub(crate) fn load_block(&self, first: usize) -> [i64; 8]
+        requires { first + 8 ≤ length self.now }
+        ensures { (j : ℕ) → j < 8 → slice_index_or result j (pos 0) ≡ slice_index_or self.now (first + j) (pos 0) }
+    {
+        eight_at(self.slots.as_slice(), first)
+    }
+
+    /// Writes eight lanes to the slots from slot `first` on.
+    #[inline]
+    pub(crate) fn store_block(&mut self, first: usize, v: [i64; 8])
+        requires { first + 8 ≤ length self.old }
+        ensures { self.new ≡ over self.old first (take 8 v) }
+    {
+        slots::store_block(self.slots.as_mut_slice(), first, v);
+    }
+
     /// The `n` slots, at most 8, from slot `first` on. The other lanes are 0.
-    #[inline(always)]
+    #[inline]
     pub(crate) fn load(&self, first: usize, n: u32) -> [i64; 8]
         requires few { n ≤ 8 }
         requires inside { first + n ≤ length self.now }
@@ -53,7 +71,7 @@ impl KeptRow {
     }
 
     /// Writes the first `n` lanes, 1 to 8, to the slots from slot `first` on.
-    #[inline(always)]
+    #[inline]
     pub(crate) fn store(&mut self, first: usize, n: u32, v: [i64; 8])
         requires some { 1 ≤ n }
         requires few { n ≤ 8 }
@@ -84,8 +102,29 @@ impl KeptRow {
     }
 }
 
+/// The eight slots from slot `first` of a row on.
+#[inline]
+pub(crate) fn load_block_from(kept: &[KeptRow], row: usize, first: usize) -> [i64; 8]
+    requires row { row < length kept.now }
+    requires inside { first + 8 ≤ length (slice_index_or kept.now row []) }
+    ensures { (j : ℕ) → j < 8 → slice_index_or result j (pos 0) ≡ entry kept.now row (first + j) }
+{
+    kept[row].load_block(first)
+}
+
+/// Writes eight lanes to the slots from slot `first` of a row on.
+#[inline]
+pub(crate) fn store_block_in(kept: &mut [KeptRow], row: usize, first: usize, v: [i64; 8])
+    requires row { row < length kept.old }
+    requires inside { first + 8 ≤ length (slice_index_or kept.old row []) }
+    ensures { kept.new ≡ with_run kept.old row first (take 8 v) }
+{
+    let row = &mut kept[row];
+    row.store_block(first, v);
+}
+
 /// The `n` slots, at most 8, from slot `first` of a row on. The other lanes are 0.
-#[inline(always)]
+#[inline]
 pub(crate) fn load_from(kept: &[KeptRow], row: usize, first: usize, n: u32) -> [i64; 8]
     requires row { row < length kept.now }
     requires few { n ≤ 8 }
@@ -97,7 +136,7 @@ pub(crate) fn load_from(kept: &[KeptRow], row: usize, first: usize, n: u32) -> [
 }
 
 /// Writes the first `n` lanes, 1 to 8, to the slots from slot `first` of a row on.
-#[inline(always)]
+#[inline]
 pub(crate) fn store_in(kept: &mut [KeptRow], row: usize, first: usize, n: u32, v: [i64; 8])
     requires row { row < length kept.old }
     requires some { 1 ≤ n }

@@ -31,7 +31,7 @@ pub(crate) fn lent_row<V: VelocitySet>(case: &Case, t: u64, k: usize, row: u32) 
 }
 
 /// The number of that kept row among all of them.
-fn lent_number<V: VelocitySet>(case: &Case, t: u64, k: usize, row: u32) -> usize
+pub(crate) fn lent_number<V: VelocitySet>(case: &Case, t: u64, k: usize, row: u32) -> usize
     requires set { case.now.stencil ≡ V.stencil }
     requires valid { IsCase case.now }
     requires array { k < V.stencil.directions }

@@ -4,8 +4,18 @@ ghost use Rattle.std.specs.Prelude.{◌≡◌, ◌+◌, ◌≤◌, length, take}
 ghost use Rattle.lbm_arrays.specs.Ranges.{over};
 ghost use Rattle.lbm_rows.specs.TileRows.{with_pads, without_pads};
 
+/// Writes eight lanes to the slots from `first` on.
+#[inline]
+pub(crate) fn store_block(slots: &mut [i64], first: usize, lanes: [i64; 8])
+    requires { first + 8 ≤ length slots.old }
+    ensures { slots.new ≡ over slots.old first (take 8 lanes) }
+{
+    let _ = slots.len(); // It fits a machine word.
+    slots[first..first + 8].copy_from_slice(&lanes);
+}
+
 /// Writes the first `n` lanes, 1 to 8, to the slots from `first` on.
-#[inline(always)]
+#[inline]
 pub(crate) fn store(slots: &mut [i64], first: usize, n: u32, lanes: [i64; 8])
     requires some { 1 ≤ n }
     requires few { n ≤ 8 }
@@ -13,12 +23,8 @@ pub(crate) fn store(slots: &mut [i64], first: usize, n: u32, lanes: [i64; 8])
     ensures { slots.new ≡ over slots.old first (take n lanes) }
 {
     let _ = slots.len(); // It fits a machine word.
-    if n == 8 {
-        slots[first..first + 8].copy_from_slice(&lanes);
-    } else {
-        let n = n as usize;
-        slots[first..first + n].copy_from_slice(&lanes[..n]);
-    }
+    let n = n as usize;
+    slots[first..first + n].copy_from_slice(&lanes[..n]);
 }
 
 /// Sets the pads of a row of `width` cells.

@@ -9,6 +9,7 @@ ghost use Rattle.lbm_rows.specs.Tiles.{standing_in, IsDivision, StandInRow};
 
 use crate::dealing::Division;
 use crate::kept_row::row_number;
+use crate::reading::read_state;
 use crate::standing::{least_out_of_limits, make_rows, population_at};
 use crate::step::advance;
 use crate::{KeptRow, TileSteps};
@@ -123,6 +124,10 @@ impl<V: VelocitySet> Lattice for Tiles<V> {
             cell,
             dir as usize,
         )
+    }
+
+    fn state(&self, alloc: Global) -> Result<State, Memory> {
+        read_state::<V>(alloc, self.kept.as_slice(), &self.case, self.time)
     }
 
     fn check(&self) -> Option<u32> {

@@ -5,6 +5,7 @@
 //! populations are taken, into which arrays they are put, and how the ranges are moved.
 #![tactic(auto)]
 
+mod brought;
 mod cell_row;
 mod in_place;
 mod lanes;

@@ -20,7 +20,7 @@ module _ (v : Stencil) (f g : ℕ → ℤ) (same : (k : ℕ) → k < v.direction
   density-same : density v f ≡ density v g
   density-same = sum_below-same v.directions f g same
 
-  collision-same : (r : RelaxationRates) (rho : ℤ) (j : List ℤ) (k : ℕ) → k < v.directions → tracer_collision v r rho j f k ≡ tracer_collision v r rho j g k
+  pub collision-same : (r : RelaxationRates) (rho : ℤ) (j : List ℤ) (k : ℕ) → k < v.directions → tracer_collision v r rho j f k ≡ tracer_collision v r rho j g k
   collision-same r rho j k known =
       let moved : ℤ → (ℕ → ℤ) → ℕ → ℤ = λ total h i. h i +ℤ relaxation_of v r rho j total (h i) i in
       ap (λ total. with_rest v total (moved total f) k) density-same

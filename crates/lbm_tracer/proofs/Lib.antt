@@ -5,8 +5,15 @@ pub mod Limits
 pub mod Neighbours
 pub mod Total
 pub mod Places
+pub mod RowPlaces
 pub mod Putting
 pub mod States
 pub mod Running
 pub mod Agreement
 pub mod Sending
+pub mod Rows
+pub mod Quotients
+pub mod FlowRows
+pub mod Following
+pub mod Making
+pub mod Quiet

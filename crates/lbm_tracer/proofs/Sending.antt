@@ -1,6 +1,6 @@
 -- A step of a tracer in place.
 --     old, now    the slots before the step, and where the cells below n have sent
-use Rattle.std.proofs.Common.{◌≡◌, ◌≢◌, ℕ, ◌+◌, ◌^◌, ◌<◌, ◌≤◌, List, ℤ, pos, unsigned_abs, sym, ap, subst, inl, inr, ◌∙◌, arith}
+use Rattle.std.proofs.Common.{◌≡◌, ◌≢◌, ℕ, ◌+◌, ◌*◌, ◌^◌, ◌<◌, ◌≤◌, List, ℤ, pos, unsigned_abs, true, false, Some, None, Result, Err, below_more, sym, ap, subst, inl, inr, ◌∙◌, arith}
 use Rattle.std.specs.Prelude.{slice_index_or}
 use Rattle.std.proofs.lemmas.Bool.{cases_eq}
 use Rattle.lbm_space.specs.Stencil.{opposite}
@@ -8,12 +8,21 @@ use Rattle.lbm_space.specs.Torus.{Torus, IsSpace, cells}
 use Rattle.lbm_cell.specs.Collision.{RelaxationRates, reflection}
 use Rattle.lbm_model.specs.State.{FlowState, population}
 use Rattle.lbm_model.specs.Case.{FlowCase}
-use Rattle.lbm_tracer.specs.Tracing.{set_in, tracer_source, tracer_post, tracer_next}
+use Rattle.lbm_model.specs.Flow.{is_sound, out_of_limits}
+use Rattle.lbm_cell.proofs.Least.{least_failing-none, least_failing-all, least_failing-at}
+use Rattle.lbm_tracer.specs.Tracing.{set_in, tracer_source, tracer_post, tracer_next, is_tracer_sound, tracer_out_of_limits}
 use Rattle.lbm_tracer.specs.Carried.{amount_in, tracer_state_in, AreFew}
 use Rattle.lbm_tracer.proofs.Neighbours.{facts, source_known}
 use Rattle.lbm_tracer.proofs.Places.{slot_turn}
 use Rattle.lbm_tracer.proofs.States.{state-same, amount-state}
-use Rattle.lbm_tracer.proofs.Agreement.{post-same}
+use Rattle.lbm_cell.specs.declared.populations.Moment.{Moment}
+use Rattle.lbm_tracer.specs.Collision.{IsMomentOf}
+use Rattle.lbm_tracer.specs.Rows.{cell_at, IsTracerRow}
+use Rattle.lbm_tracer.specs.declared.slots.TracerRow.{TracerRow}
+use Rattle.lbm_tracer.specs.Sending.{HaveSent, Goes, RowGoes, Makes}
+use Rattle.lbm_tracer.specs.declared.step.Unsent.{Unsent}
+use Rattle.lbm_tracer.specs.declared.step.Unsent.TheVariants as ends
+use Rattle.lbm_tracer.proofs.Agreement.{post-same, sound-same}
 
 -- amount k of a cell at the next time is what the cell behind has put where it took the opposite direction
 pub amount-turn : (t : Torus) (time : ℕ) (slots : List ℤ) (x k : ℕ) → IsSpace t → x < cells t → k < (set_in t).directions
@@ -23,6 +32,16 @@ amount-turn t time slots x k space here known = ap (λ s. slice_index_or slots s
 pub few-turn : (t : Torus) (time : ℕ) (slots : List ℤ) → IsSpace t → AreFew t (amount_in t time slots) → AreFew t (amount_in t (time + 1) slots)
 few-turn t time slots space few x k here known =
     rw (amount-turn t time slots x k space here known) (few (tracer_source t x k) (opposite (set_in t) k) (source_known t space x k here known) ((facts t space).opposite_exists k known))
+
+-- a cell puts small amounts in its slots
+pub few-put : (t : Torus) (time : ℕ) (now new : List ℤ) (x : ℕ) (p w : ℕ → ℤ) → IsSpace t → ((k : ℕ) → k < (set_in t).directions → unsigned_abs (p k) ≤ 2 ^ 35)
+    → ((k : ℕ) → k < (set_in t).directions → w k ≡ reflection (set_in t) p k) → ((k : ℕ) → k < (set_in t).directions → amount_in t time new x k ≡ w k)
+    → ((y k : ℕ) → y < cells t → k < (set_in t).directions → y ≢ x → amount_in t time new y k ≡ amount_in t time now y k)
+    → AreFew t (amount_in t time now) → AreFew t (amount_in t time new)
+few-put t time now new x p w space small turned put others few y k here known = elim (cases_eq y x) [
+  | inl same ↦ rw (same, put k known, turned k known) (small (opposite (set_in t) k) ((facts t space).opposite_exists k known))
+  | inr ne ↦ rw (others y k here known ne) (few y k here known)
+]
 
 module _ (case : FlowCase) (r : RelaxationRates) (s : FlowState) (time : ℕ) where
   -- each cell below n has put what it sends in each direction where it took the opposite one
@@ -41,16 +60,10 @@ module _ (case : FlowCase) (r : RelaxationRates) (s : FlowState) (time : ℕ) wh
       state-same t (amount_in t (time + 1) now) (λ x k. tracer_post case r s (tracer_source t x k) (population g (tracer_source t x k)) k)
       (λ x k here known. amount-turn t time now x k space here known ∙ sent (tracer_source t x k) k (source_known t space x k here known) known)
 
-  -- where all have sent, the next state stands there at the next time
-  pub sent-all : (t : Torus) (old now : List ℤ) → case.torus ≡ t → IsSpace t → AreSent t old now (cells t) → tracer_state_in t (time + 1) now ≡ tracer_next case r s (tracer_state_in t time old)
-  sent-all t old now of_case space sent =
-      subst (λ (u : Torus). IsSpace u → AreSent u old now (cells u) → tracer_state_in u (time + 1) now ≡ tracer_next case r s (tracer_state_in u time old)) of_case (sent-here old now) space sent
-
   -- Cell x puts what it has made of its amounts: p of the amounts a, turned to w.
   pub record OneSends (t : Torus) (now new : List ℤ) (x : ℕ) (a p w : ℕ → ℤ) : Type 0 where
     pub taken : (k : ℕ) → k < (set_in t).directions → a k ≡ amount_in t time now x k
     pub made : (k : ℕ) → k < (set_in t).directions → p k ≡ tracer_post case r s x a k
-    pub small : (k : ℕ) → k < (set_in t).directions → unsigned_abs (p k) ≤ 2 ^ 35
     pub turned : (k : ℕ) → k < (set_in t).directions → w k ≡ reflection (set_in t) p k
     pub put : (k : ℕ) → k < (set_in t).directions → amount_in t time new x k ≡ w k
     pub others : (y k : ℕ) → y < cells t → k < (set_in t).directions → y ≢ x → amount_in t time new y k ≡ amount_in t time now y k
@@ -73,18 +86,65 @@ module _ (case : FlowCase) (r : RelaxationRates) (s : FlowState) (time : ℕ) wh
         | inr ne ↦ one.others y o (omega arith) known_o ne ∙ sent y k (omega arith) known
       ]
 
-  -- so one more cell has sent
-  pub sent-more : (t : Torus) (old now new : List ℤ) (x : ℕ) (a p w : ℕ → ℤ) → case.torus ≡ t → IsSpace t → x < cells t → OneSends t now new x a p w
-      → AreSent t old now x → AreKept t old now x → AreSent t old new (x + 1)
-  sent-more t old now new x a p w of_case space here one sent kept =
-      subst (λ (u : Torus). IsSpace u → x < cells u → OneSends u now new x a p w → AreSent u old now x → AreKept u old now x → AreSent u old new (x + 1)) of_case
-      (one-sent old now new x a p w) space here one sent kept
-
-  pub kept-more : (t : Torus) (old now new : List ℤ) (x : ℕ) (a p w : ℕ → ℤ) → OneSends t now new x a p w → AreKept t old now x → AreKept t old new (x + 1)
+  kept-more : (t : Torus) (old now new : List ℤ) (x : ℕ) (a p w : ℕ → ℤ) → OneSends t now new x a p w → AreKept t old now x → AreKept t old new (x + 1)
   kept-more t old now new x a p w one kept y k above here known = one.others y k here known (omega arith) ∙ kept y k (omega arith) here known
 
-  pub few-more : (t : Torus) (now new : List ℤ) (x : ℕ) (a p w : ℕ → ℤ) → IsSpace t → OneSends t now new x a p w → AreFew t (amount_in t time now) → AreFew t (amount_in t time new)
-  few-more t now new x a p w space one few y k here known = elim (cases_eq y x) [
-    | inl same ↦ rw (same, one.put k known, one.turned k known) (one.small (opposite (set_in t) k) ((facts t space).opposite_exists k known))
-    | inr ne ↦ rw (one.others y k here known ne) (few y k here known)
-  ]
+  -- where every cell has sent, one more cell is told
+  pub have-more : (old now new : List ℤ) (x : ℕ) (a p w : ℕ → ℤ) → IsSpace case.torus → x < cells case.torus → OneSends case.torus now new x a p w
+      → is_tracer_sound case x a ≡ true → HaveSent case r s time old now x → HaveSent case r s time old new (x + 1)
+  have-more old now new x a p w space here one passes before = record {
+    passed = below_more _ _ before.passed (sym (sound-same case x a (population (tracer_state_in case.torus time old) x) (taken-old case.torus old now x a here before.kept one.taken)) ∙ passes);
+    sent = one-sent old now new x a p w space here one before.sent before.kept;
+    kept = kept-more case.torus old now new x a p w one before.kept;
+  }
+
+  -- a cell of the tracer, or of the flow, is out of limits
+  stops-tracer : (old now : List ℤ) (x y n : ℕ) (a : ℕ → ℤ) → x < n → x < cells case.torus → ((k : ℕ) → k < (set_in case.torus).directions → a k ≡ amount_in case.torus time now x k)
+      → HaveSent case r s time old now x → (y ≡ x) × (is_tracer_sound case x a ≡ false) → Goes case r s time old now n (Err (ends.TracerOut y))
+  stops-tracer old now x y n a within here taken before fails =
+      subst (λ (z : ℕ). Goes case r s time old now n (Err (ends.TracerOut z))) (sym fails.0)
+      (within, before.passed, sym (sound-same case x a (population (tracer_state_in case.torus time old) x) (taken-old case.torus old now x a here before.kept taken)) ∙ fails.1)
+
+  pub stops : (old now : List ℤ) (x n : ℕ) (flow : Moment) (a : ℕ → ℤ) (end : Unsent) → x < n → x < cells case.torus → ((k : ℕ) → k < (set_in case.torus).directions → a k ≡ amount_in case.torus time now x k)
+      → HaveSent case r s time old now x → IsMomentOf case.stencil (population s x) flow → Makes case r flow x a (Err end) → Goes case r s time old now n (Err end)
+  stops old now x n flow a (ends.TracerOut y) within here taken before is makes = stops-tracer old now x y n a within here taken before makes
+  stops old now x n flow a ends.FlowOut within here taken before is makes = (x, here, makes s is)
+
+  -- where a part of the cells has stopped, all have
+  pub stopped-early : (old now : List ℤ) (m n : ℕ) (end : Unsent) → m ≤ n → Goes case r s time old now m (Err end) → Goes case r s time old now n (Err end)
+  stopped-early old now m n (ends.TracerOut x) few goes = (omega (arith, goes.0, few), goes.1, goes.2)
+  stopped-early old now m n ends.FlowOut few goes = goes
+
+  -- nothing has been sent yet
+  pub none-sent : (old : List ℤ) → HaveSent case r s time old old 0
+  none-sent old = record { passed = λ x below. absurd (omega arith); sent = λ x k below. absurd (omega arith); kept = λ x k above here known i. amount_in case.torus time old x k }
+
+  -- all have sent: both are in limits, and the next state stands there
+  pub all-passed : (old now : List ℤ) → HaveSent case r s time old now (cells case.torus) → tracer_out_of_limits case (tracer_state_in case.torus time old) ≡ None
+  all-passed old now have = least_failing-all (cells case.torus) (λ x. is_tracer_sound case x (population (tracer_state_in case.torus time old) x)) have.passed
+
+  pub all-sent : (old now : List ℤ) → IsSpace case.torus → HaveSent case r s time old now (cells case.torus) → tracer_state_in case.torus (time + 1) now ≡ tracer_next case r s (tracer_state_in case.torus time old)
+  all-sent old now space have = sent-here old now space have.sent
+
+  pub tracer-stopped : (old now : List ℤ) (x : ℕ) → Goes case r s time old now (cells case.torus) (Err (ends.TracerOut x)) → tracer_out_of_limits case (tracer_state_in case.torus time old) ≡ Some x
+  tracer-stopped old now x goes =
+      least_failing-at (cells case.torus) (λ y. is_tracer_sound case y (population (tracer_state_in case.torus time old) y)) x (record { known = goes.0; failed = goes.2; passed = goes.1 })
+
+  pub flow-stopped : (old now : List ℤ) → Goes case r s time old now (cells case.torus) (Err ends.FlowOut) → out_of_limits case s ≡ None → ⊥
+  flow-stopped old now goes sound =
+      let x = goes.0 in let passes : is_sound case x (population s x) ≡ true = least_failing-none (cells case.torus) (λ y. is_sound case y (population s y)) sound x goes.1 in
+      let h : true ≡ false = sym passes ∙ goes.2 in absurd cc
+
+-- a row's part, by the number of the row
+pub row-goes : (case : FlowCase) (r : RelaxationRates) (row : TracerRow) (m : ℕ → Moment) (now new : List ℤ) (result : Result (Unit {0}) Unsent) (t : Torus) (time number : ℕ)
+    → IsTracerRow row → row.space ≡ t → row.time ≡ time → row.number ≡ number → RowGoes case r row m now new result
+    → (s : FlowState) (old : List ℤ) → ((x : ℕ) → x < t.nx → IsMomentOf case.stencil (population s (number * t.nx + x)) (m x))
+    → HaveSent case r s time old now (number * t.nx) → Goes case r s time old new ((number + 1) * t.nx) result
+row-goes case r row m now new result t time number is space time_is number_is goes s old moments before =
+    let wide : row.width ≡ t.nx = is.wide ∙ ap (λ (u : Torus). u.nx) space in
+    let cell : (x : ℕ) → cell_at row x ≡ number * t.nx + x = λ x j. number_is j * wide j + x in
+    let first : cell_at row 0 ≡ number * t.nx = cell 0 ∙ omega arith in
+    let last : cell_at row row.width ≡ (number + 1) * t.nx = (λ j. number_is j * wide j + wide j) ∙ omega arith in
+    subst (λ (w : ℕ × ℕ). Goes case r s w.0 old new w.1 result) (λ j. (time_is j, last j))
+    (goes s old (λ x below. subst (λ (y : ℕ). IsMomentOf case.stencil (population s y) (m x)) (sym (cell x)) (moments x (subst (λ (u : Torus). x < u.nx) space below)))
+    (subst (λ (w : ℕ × ℕ). HaveSent case r s w.0 old now w.1) (λ j. (sym time_is j, sym first j)) before))

@@ -7,3 +7,6 @@ pub mod Running
 pub mod Trace
 pub mod Laws
 pub mod Worked
+pub mod FlowRows
+pub mod Rows
+pub mod Sending

@@ -7,7 +7,9 @@
 
 mod collision;
 pub mod constants;
+mod flow_row;
 pub mod laws;
+mod quotient;
 mod run;
 mod set;
 mod slots;

@@ -47,6 +47,7 @@ impl TracerSet {
     }
 
     /// The number of directions.
+    #[inline(always)]
     pub fn q(self) -> usize
         ensures { result ≡ (stencil_of self).directions }
     {
@@ -57,6 +58,7 @@ impl TracerSet {
     }
 
     /// The denominator of the weights.
+    #[inline(always)]
     pub fn denominator(self) -> i64
         ensures { result ≡ (stencil_of self).denominator }
     {
@@ -67,6 +69,7 @@ impl TracerSet {
     }
 
     /// One over the square of the speed of sound.
+    #[inline(always)]
     pub fn inverse_sound_squared(self) -> i64
         ensures { result ≡ inverse_sound_squared (stencil_of self) }
     {
@@ -77,6 +80,7 @@ impl TracerSet {
     }
 
     /// The velocity of direction `k`: x, y and z.
+    #[inline(always)]
     pub fn velocity(self, k: usize) -> [i64; 3]
         requires { k < (stencil_of self).directions }
         ensures { result ≡ velocity (stencil_of self) k }
@@ -88,6 +92,7 @@ impl TracerSet {
     }
 
     /// The weight of direction `k`, over the denominator.
+    #[inline(always)]
     pub fn weight(self, k: usize) -> i64
         requires { k < (stencil_of self).directions }
         ensures { result ≡ weight (stencil_of self) k }
@@ -96,6 +101,7 @@ impl TracerSet {
     }
 
     /// The direction with the velocity of direction `k` reversed.
+    #[inline(always)]
     pub fn opposite(self, k: usize) -> usize
         requires { k < (stencil_of self).directions }
         ensures value { result ≡ opposite (stencil_of self) k }

@@ -13,6 +13,7 @@ ghost use Rattle.lbm_tracer.specs.Carried.{HoldsFirst, carried, places_of};
 
 use crate::TracerSet;
 use crate::collision::{first_amounts, sum_of};
+use crate::flow_row::FlowRow;
 use crate::slots::{amounts_at, put_amounts};
 use lbm_arrays::Region;
 use lbm_cell::Rates;
@@ -29,23 +30,25 @@ pub struct Tracer<A: Allocator> {
     pub(crate) space: Space,
     pub(crate) rates: Rates,
     pub(crate) region: Region<A>,
+    pub(crate) flows: FlowRow<A>,
     pub(crate) time: u64,
     pub(crate) spent: bool,
 }
 
 impl<A: Allocator> Model for Tracer<A> {
     ghost use Rattle.lbm_tracer.specs.Carried.{TracerLattice, IsTracer};
+    ghost use Rattle.lbm_tracer.specs.FlowRows.{HasRoom};
 
     ghost Value = { TracerLattice };
 
     ghost view = { λ t. record { torus = t.space; rates = t.rates; time = t.time; spent = t.spent; slots = t.region.slots } };
 
-    ghost invariant = { λ t. IsTracer t.space t.time t.spent t.region };
+    ghost invariant = { λ t. IsTracer t.space t.time t.spent t.region × HasRoom t.space.nx t.flows };
 }
 
 impl<A: Allocator + Copy> Tracer<A> {
     /// The tracer that begins with an amount, 1 to 16,777,216, in one fluid cell of a case, at time 0, with all the memory that it
-    /// needs: eight bytes a slot, in arrays of two slots more than the case's space has padded places. Its amounts relax by p / q of
+    /// needs: eight bytes a slot, in arrays of two slots more than the case's space has padded places, and room for a row of the flow. Its amounts relax by p / q of
     /// `rates`. The cutting, one of the case's rows, is not used: a step goes over the cells one after the other. Want of memory is
     /// the only refusal.
     pub fn start(
@@ -66,10 +69,12 @@ impl<A: Allocator + Copy> Tracer<A> {
     {
         let space = *case.space();
         let region = first_region(heap, &space, amount, cell)?;
+        let flows = FlowRow::new(heap, space.sides()[0] as usize)?;
         Ok(Tracer {
             space,
             rates,
             region,
+            flows,
             time: 0,
             spent: false,
         })

@@ -1,5 +1,6 @@
 pub mod Simple
 pub mod NumberLemmas
+pub mod RateLemmas
 pub mod CommandLemmas
 pub mod EndLemmas
 pub mod Ranges

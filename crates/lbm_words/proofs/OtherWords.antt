@@ -14,9 +14,9 @@ differs name other different = elim (cases_Bool (bytes_eq name other)) [
 ]
 
 pub request_of-other : (words : List (String Global)) (word : String Global) (name : Text) → 1 ≤ length words → word ≡ get_or words 0 word → name ≡ string_bytes word
-    → name ≢ codes "run" → name ≢ codes "check" → name ≢ codes "demo" → name ≢ codes "voxels" → request_of (map string_bytes words) ≡ None
+    → name ≢ codes "run" → name ≢ codes "check" → name ≢ codes "demo" → name ≢ codes "voxels" → name ≢ codes "tracer" → request_of (map string_bytes words) ≡ None
 unfolding request_of
-request_of-other [] word name some first is run check demo voxels = absurd (omega arith)
-request_of-other (other ∷ rest) word name some first is run check demo voxels =
+request_of-other [] word name some first is run check demo voxels tracer = absurd (omega arith)
+request_of-other (other ∷ rest) word name some first is run check demo voxels tracer =
     let same : string_bytes other ≡ name = sym (is ∙ ap string_bytes first) in
-    rw (same, differs name (codes "run") run, differs name (codes "check") check, differs name (codes "demo") demo, differs name (codes "voxels") voxels) refl
+    rw (same, differs name (codes "run") run, differs name (codes "check") check, differs name (codes "demo") demo, differs name (codes "voxels") voxels, differs name (codes "tracer") tracer) refl

@@ -1,6 +1,6 @@
 -- The ranges of what words ask for.
 use Rattle.std.proofs.Common.{◌≡◌, ◌≤◌, ℕ, Bool, true, false, ◌&&◌, not, cond, List, [], ◌∷◌, length, suc, refl, sym, ap, subst, ◌∙◌, arith, true≢false, leb-true, codes}
-use Rattle.std.specs.Prelude.{◌≢◌, Option, Some, None, IfSome, Result, Ok, Err, IfOk, option_map, option_and_then, nat_le}
+use Rattle.std.specs.Prelude.{◌≢◌, Option, Some, None, IfSome, Result, Ok, Err, IfOk, option_map, option_and_then, nat_le, pos}
 use Rattle.std.specs.Str.{bytes_eq}
 use Rattle.std.specs.List.{slice_split}
 use Rattle.std.proofs.lemmas.Slice.Eq.{bytes_eq-Decides}
@@ -12,9 +12,12 @@ use Rattle.lbm_words.specs.Ends.{Gives}
 use Rattle.lbm_words.specs.Names.{pattern_named}
 use Rattle.lbm_number.specs.Number.{number_of}
 use Rattle.lbm_words.specs.Numbers.{number_between, numbers_of, each, is_comma}
-use Rattle.lbm_words.specs.Commands.{run_app, check_app, demo_app, voxels_app}
+use Rattle.lbm_cell.specs.Collision.{IsRates, rates}
+use Rattle.lbm_words.specs.Rate.{is_rate, rate, rate_of_two, rate_of}
+use Rattle.lbm_words.proofs.RateLemmas.{rate_allowed}
+use Rattle.lbm_words.specs.Commands.{run_app, check_app, demo_app, voxels_app, tracer_app}
 use Rattle.lbm_words.specs.Request.{IsChoice, IsRun, IsRequest, run}
-use Rattle.lbm_words.specs.Words.{◌>>=◌, demand, required, optional, steps_of, format_of, choice_of, is_other, run_of, check_of, demo_of, voxels_of, taken, run_asked, check_asked, demo_asked, voxels_asked}
+use Rattle.lbm_words.specs.Words.{◌>>=◌, demand, required, optional, steps_of, format_of, choice_of, is_other, run_of, check_of, demo_of, voxels_of, tracer_rate_of, tracer_of, taken, run_asked, check_asked, demo_asked, voxels_asked, tracer_asked}
 
 first_true : (a b : Bool) → (a && b) ≡ true → a ≡ true
 first_true true b both = refl
@@ -101,6 +104,24 @@ numbers_of-range text = go (each number_of parts) (IfSome-each number_of parts)
     go None is = tt
     go (Some ns) is =
         IfSome-test (nat_le (length ns) 4095) ns AreCuts (λ few. (let all = length-slice_split is_comma text in omega (arith, is, all), leb-true _ _ few))
+
+-- ---- rates
+
+rate-range : (p q : ℕ) → IfSome (rate p q) IsRates
+rate-range p q = IfSome-test (is_rate p q) (rates (pos p) (pos p) (pos q)) IsRates (rate_allowed p q)
+
+rate_of_two-range : (numbers : List ℕ) → IfSome (rate_of_two numbers) IsRates
+rate_of_two-range [] = tt
+rate_of_two-range (p ∷ []) = tt
+rate_of_two-range (p ∷ q ∷ []) = rate-range p q
+rate_of_two-range (p ∷ q ∷ r ∷ more) = tt
+
+rate_of-range : (text : Text) → IfSome (rate_of text) IsRates
+unfolding rate_of
+rate_of-range text = IfSome-and_then rate_of_two (each number_of (slice_split is_comma text)) IsRates rate_of_two-range
+
+tracer_rate_of-range : (rows : List Row) → IfSome (tracer_rate_of rows) IsRates
+tracer_rate_of-range rows = optional-holds rate_of (rates (pos 1) (pos 1) (pos 1)) (codes "rate") rows IsRates (rate_allowed 1 1 refl) rate_of-range
 
 -- ---- requests
 
@@ -203,6 +224,40 @@ demo_of-ranges rows =
       save_is_not_out = is_other-differs out save differ;
     }))))))
 
+tracer_of-ranges : (rows : List Row) → IfSome (tracer_of rows) IsRequest
+unfolding tracer_of
+tracer_of-ranges rows =
+    IfSome-pass (first_of (codes "case") rows) _ IsRequest
+    (λ case.
+    IfSome-bind (steps_of rows) _ (IsBetween 0 1000000) IsRequest (required-range 0 1000000 (codes "steps") rows)
+    (λ steps few_steps.
+    IfSome-pass (first_of (codes "out") rows) _ IsRequest
+    (λ out.
+    IfSome-pass (first_of (codes "trace") rows) _ IsRequest
+    (λ trace.
+    IfSome-bind (required (number_between 1 16777216) (codes "amount") rows) _ (IsBetween 1 16777216) IsRequest (required-range 1 16777216 (codes "amount") rows)
+    (λ amount few.
+    IfSome-pass (required number_of (codes "cell") rows) _ IsRequest
+    (λ cell.
+    IfSome-bind (tracer_rate_of rows) _ IsRates IsRequest (tracer_rate_of-range rows)
+    (λ rate allowed.
+    IfSome-bind (choice_of rows) _ IsChoice IsRequest (choice_of-ranges rows)
+    (λ choice choice_is.
+    IfSome-pass (format_of rows) _ IsRequest
+    (λ format.
+    let distinct = is_other case (Some out) && is_other case (Some trace) && is_other out (Some trace) in
+    IfSome-bind (demand distinct) _ (λ _. distinct ≡ true) IsRequest (IfSome-demand distinct)
+    (λ _ differ. record {
+      few_steps = few_steps.1;
+      some = few.0;
+      few = few.1;
+      rates = allowed;
+      choice = choice_is;
+      out_is_not_case = is_other-differs case (Some out) (first_true _ (is_other case (Some trace)) (first_true _ (is_other out (Some trace)) differ));
+      trace_is_not_case = is_other-differs case (Some trace) (second_true (is_other case (Some out)) _ (first_true _ (is_other out (Some trace)) differ));
+      trace_is_not_out = is_other-differs out (Some trace) (second_true (is_other case (Some out) && is_other case (Some trace)) _ differ);
+    }))))))))))
+
 pub run_asked-ranges : (words : List Text) → IfSome (run_asked words) IsRequest
 unfolding run_asked
 run_asked-ranges words = IfSome-option_map run (taken run_app words >>= run_of) IsRun IsRequest (IfSome-pass (taken run_app words) run_of IsRun run_of-ranges) (λ r is. is)
@@ -218,6 +273,10 @@ voxels_asked-ranges words = IfSome-pass (taken voxels_app words) voxels_of IsReq
 pub demo_asked-ranges : (words : List Text) → IfSome (demo_asked words) IsRequest
 unfolding demo_asked
 demo_asked-ranges words = IfSome-pass (taken demo_app words) demo_of IsRequest demo_of-ranges
+
+pub tracer_asked-ranges : (words : List Text) → IfSome (tracer_asked words) IsRequest
+unfolding tracer_asked
+tracer_asked-ranges words = IfSome-pass (taken tracer_app words) tracer_of IsRequest tracer_of-ranges
 
 -- what a function gave is in range where the reading is
 pub Gives-ranges : {X Y : Type 0} (view : X → Y) (r : Result X WordsEnd) (reading : Option Y) (P : Y → Type 0) → Gives view r reading → IfSome reading P → IfOk r (λ x. P (view x))

@@ -2,7 +2,7 @@
 use Rattle.std.proofs.Common.{◌≡◌, true, refl}
 use Rattle.clap.specs.Words.{is_simple_and_free}
 use Rattle.clap.proofs.OnLiterals.{clap_on_literals}
-use Rattle.lbm_words.specs.Commands.{run_app, check_app, demo_app, voxels_app}
+use Rattle.lbm_words.specs.Commands.{run_app, check_app, demo_app, voxels_app, tracer_app}
 
 pub run_app-is_simple : is_simple_and_free run_app ≡ true
 unfolding clap_on_literals run_app
@@ -19,3 +19,7 @@ demo_app-is_simple = refl
 pub voxels_app-is_simple : is_simple_and_free voxels_app ≡ true
 unfolding clap_on_literals voxels_app
 voxels_app-is_simple = refl
+
+pub tracer_app-is_simple : is_simple_and_free tracer_app ≡ true
+unfolding clap_on_literals tracer_app
+tracer_app-is_simple = refl

@@ -1,15 +1,17 @@
 -- Lists of words, and what the definition gives for them, by computation.
 use Rattle.std.proofs.Common.{◌≡◌, ℕ, true, refl, List, [], ◌∷◌, Some, None, codes}
-use Rattle.std.specs.Prelude.{is_none}
+use Rattle.std.specs.Prelude.{is_none, pos}
 use Rattle.std.specs.List.{list_all}
 use Rattle.clap.proofs.OnLiterals.{clap_on_literals}
+use Rattle.lbm_cell.specs.Collision.{rates}
 use Rattle.lbm_vtk.specs.declared.Format.TheVariants.{Ascii, Binary}
 use Rattle.lbm_words.specs.declared.request.PatternKind.TheVariants.{Aa, Tiles}
 use Rattle.lbm_number.specs.Number.{number_of}
 use Rattle.lbm_words.specs.Numbers.{numbers_of}
-use Rattle.lbm_words.specs.Commands.{run_app, check_app, demo_app, voxels_app}
-use Rattle.lbm_words.specs.Request.{run, check, voxels}
-use Rattle.lbm_words.specs.Words.{request_of, run_asked, check_asked, demo_asked, voxels_asked, run_of, check_of, demo_of, voxels_of, choice_of}
+use Rattle.lbm_words.specs.Rate.{rate_of}
+use Rattle.lbm_words.specs.Commands.{run_app, check_app, demo_app, voxels_app, tracer_app}
+use Rattle.lbm_words.specs.Request.{run, check, voxels, tracer}
+use Rattle.lbm_words.specs.Words.{request_of, run_asked, check_asked, demo_asked, voxels_asked, tracer_asked, run_of, check_of, demo_of, voxels_of, tracer_of, choice_of}
 
 plain_run : request_of (codes "run" ∷ codes "c" ∷ codes "5" ∷ codes "o" ∷ []) ≡ Some (run (record {
   case = codes "c";
@@ -54,6 +56,34 @@ plain_voxels : request_of (codes "voxels" ∷ codes "v" ∷ codes "c" ∷ codes 
 unfolding request_of voxels_asked voxels_app voxels_of run_of choice_of number_of numbers_of clap_on_literals
 plain_voxels = refl
 
+plain_tracer : request_of (codes "tracer" ∷ codes "c" ∷ codes "2" ∷ codes "o" ∷ codes "tr" ∷ codes "600" ∷ codes "0" ∷ []) ≡ Some (tracer (record {
+  case = codes "c";
+  steps = 2;
+  out = codes "o";
+  trace = codes "tr";
+  amount = 600;
+  cell = 0;
+  rates = rates (pos 1) (pos 1) (pos 1);
+  choice = record { pattern = Aa; workers = 1; cut = None; tile = 8 };
+  format = Ascii;
+}))
+unfolding request_of tracer_asked tracer_app tracer_of choice_of number_of numbers_of rate_of clap_on_literals
+plain_tracer = refl
+
+full_tracer : request_of (codes "tracer" ∷ codes "--rate=1023,0512" ∷ codes "c" ∷ codes "5" ∷ codes "--format" ∷ codes "binary" ∷ codes "o" ∷ codes "tr" ∷ codes "--pattern=tiles" ∷ codes "16777216" ∷ codes "999999999" ∷ []) ≡ Some (tracer (record {
+  case = codes "c";
+  steps = 5;
+  out = codes "o";
+  trace = codes "tr";
+  amount = 16777216;
+  cell = 999999999;
+  rates = rates (pos 1023) (pos 1023) (pos 512);
+  choice = record { pattern = Tiles; workers = 1; cut = None; tile = 8 };
+  format = Binary;
+}))
+unfolding request_of tracer_asked tracer_app tracer_of choice_of number_of numbers_of rate_of clap_on_literals
+full_tracer = refl
+
 wrong_uses : List (List (List ℕ))
 wrong_uses =
     []
@@ -74,8 +104,21 @@ wrong_uses =
     ∷ (codes "voxels" ∷ codes "v" ∷ codes "c" ∷ codes "5" ∷ codes "v" ∷ [])
     ∷ (codes "voxels" ∷ codes "v" ∷ codes "c" ∷ codes "5" ∷ codes "c" ∷ [])
     ∷ (codes "voxels" ∷ codes "v" ∷ codes "c" ∷ codes "5" ∷ codes "o" ∷ codes "--save" ∷ codes "v" ∷ [])
+    ∷ (codes "tracer" ∷ codes "c" ∷ codes "5" ∷ codes "o" ∷ codes "tr" ∷ codes "600" ∷ [])
+    ∷ (codes "tracer" ∷ codes "c" ∷ codes "5" ∷ codes "o" ∷ codes "tr" ∷ codes "0" ∷ codes "0" ∷ [])
+    ∷ (codes "tracer" ∷ codes "c" ∷ codes "5" ∷ codes "o" ∷ codes "tr" ∷ codes "16777217" ∷ codes "0" ∷ [])
+    ∷ (codes "tracer" ∷ codes "c" ∷ codes "5" ∷ codes "o" ∷ codes "tr" ∷ codes "600" ∷ codes "0000000001" ∷ [])
+    ∷ (codes "tracer" ∷ codes "c" ∷ codes "5" ∷ codes "o" ∷ codes "tr" ∷ codes "600" ∷ codes "0" ∷ codes "--rate" ∷ codes "2,1" ∷ [])
+    ∷ (codes "tracer" ∷ codes "c" ∷ codes "5" ∷ codes "o" ∷ codes "tr" ∷ codes "600" ∷ codes "0" ∷ codes "--rate" ∷ codes "0,1" ∷ [])
+    ∷ (codes "tracer" ∷ codes "c" ∷ codes "5" ∷ codes "o" ∷ codes "tr" ∷ codes "600" ∷ codes "0" ∷ codes "--rate" ∷ codes "1,1025" ∷ [])
+    ∷ (codes "tracer" ∷ codes "c" ∷ codes "5" ∷ codes "o" ∷ codes "tr" ∷ codes "600" ∷ codes "0" ∷ codes "--rate" ∷ codes "1" ∷ [])
+    ∷ (codes "tracer" ∷ codes "c" ∷ codes "5" ∷ codes "o" ∷ codes "tr" ∷ codes "600" ∷ codes "0" ∷ codes "--rate" ∷ codes "1,1,1" ∷ [])
+    ∷ (codes "tracer" ∷ codes "c" ∷ codes "5" ∷ codes "o" ∷ codes "tr" ∷ codes "600" ∷ codes "0" ∷ codes "--save" ∷ codes "s" ∷ [])
+    ∷ (codes "tracer" ∷ codes "c" ∷ codes "5" ∷ codes "c" ∷ codes "tr" ∷ codes "600" ∷ codes "0" ∷ [])
+    ∷ (codes "tracer" ∷ codes "c" ∷ codes "5" ∷ codes "o" ∷ codes "c" ∷ codes "600" ∷ codes "0" ∷ [])
+    ∷ (codes "tracer" ∷ codes "c" ∷ codes "5" ∷ codes "o" ∷ codes "o" ∷ codes "600" ∷ codes "0" ∷ [])
     ∷ []
 
 all_refused : list_all (λ words. is_none (request_of words)) wrong_uses ≡ true
-unfolding request_of run_asked check_asked demo_asked voxels_asked run_app check_app demo_app voxels_app run_of check_of demo_of voxels_of choice_of number_of numbers_of clap_on_literals wrong_uses
+unfolding request_of run_asked check_asked demo_asked voxels_asked tracer_asked run_app check_app demo_app voxels_app tracer_app run_of check_of demo_of voxels_of tracer_of choice_of number_of numbers_of rate_of clap_on_literals wrong_uses
 all_refused = refl

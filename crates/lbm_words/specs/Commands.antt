@@ -45,3 +45,8 @@ demo_app =
 
 unfoldable pub voxels_app : App
 voxels_app = command_of (codes "voxels") (codes "file" ∷ codes "case" ∷ codes "steps" ∷ codes "out" ∷ []) run_options
+
+unfoldable pub tracer_app : App
+tracer_app =
+    command_of (codes "tracer") (codes "case" ∷ codes "steps" ∷ codes "out" ∷ codes "trace" ∷ codes "amount" ∷ codes "cell" ∷ [])
+    (choice_options ++ codes "format" ∷ codes "rate" ∷ [])

@@ -1,5 +1,6 @@
 pub mod Ends
 pub mod Numbers
+pub mod Rate
 pub mod Names
 pub mod Commands
 pub mod Request

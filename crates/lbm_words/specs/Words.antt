@@ -1,5 +1,5 @@
 -- What the words after the program's name ask for. `None` is a wrong use of the program.
-use Rattle.std.specs.Prelude.{ℕ, List, [], ◌∷◌, codes, Bool, true, not, ◌&&◌, if◌then◌else◌, Option, Some, None, option_and_then, option_map}
+use Rattle.std.specs.Prelude.{ℕ, List, [], ◌∷◌, codes, Bool, true, not, ◌&&◌, if◌then◌else◌, Option, Some, None, option_and_then, option_map, pos}
 use Rattle.std.specs.Option.{option_map_or}
 use Rattle.std.specs.Str.{bytes_eq}
 use Rattle.clap.specs.Walk.{Row, Text, first_of, is_empty, rows_of}
@@ -11,10 +11,13 @@ use Rattle.lbm_vtk.specs.declared.Format.{Format}
 use Rattle.lbm_vtk.specs.declared.Format.TheVariants.{Ascii}
 use Rattle.lbm_words.specs.declared.request.PatternKind.TheVariants.{Aa}
 use Rattle.lbm_model.specs.Limits.{most_steps}
+use Rattle.lbm_cell.specs.Collision.{RelaxationRates, rates}
+use Rattle.lbm_number.specs.Number.{number_of}
 use Rattle.lbm_words.specs.Numbers.{number_between, numbers_of}
 use Rattle.lbm_words.specs.Names.{pattern_named, format_named}
-use Rattle.lbm_words.specs.Commands.{run_app, check_app, demo_app, voxels_app}
-use Rattle.lbm_words.specs.Request.{Choice, Run, Request, run, check, demo, voxels}
+use Rattle.lbm_words.specs.Rate.{rate_of}
+use Rattle.lbm_words.specs.Commands.{run_app, check_app, demo_app, voxels_app, tracer_app}
+use Rattle.lbm_words.specs.Request.{Choice, Run, Request, run, check, demo, voxels, tracer, most_amount}
 
 -- what is read goes on to f, and a refusal ends the reading
 infixl 10 ◌>>=◌
@@ -101,6 +104,35 @@ voxels_of rows = do
   distinct ← demand (is_other file (Some r.out) && is_other file r.save)
   Some (voxels (record { file = file; run = r }))
 
+-- the rate of a tracer, which is 1 where the option is absent
+abbrev pub tracer_rate_of : List Row → Option RelaxationRates
+tracer_rate_of = optional rate_of (rates (pos 1) (pos 1) (pos 1)) (codes "rate")
+
+-- the run with a tracer that the values ask for, where the names of the case, the result and the trace are different
+unfoldable pub tracer_of : List Row → Option Request
+tracer_of rows = do
+  case ← first_of (codes "case") rows
+  steps ← steps_of rows
+  out ← first_of (codes "out") rows
+  trace ← first_of (codes "trace") rows
+  amount ← required (number_between 1 most_amount) (codes "amount") rows
+  cell ← required number_of (codes "cell") rows
+  rate ← tracer_rate_of rows
+  choice ← choice_of rows
+  format ← format_of rows
+  distinct ← demand (is_other case (Some out) && is_other case (Some trace) && is_other out (Some trace))
+  Some (tracer (record {
+    case = case;
+    steps = steps;
+    out = out;
+    trace = trace;
+    amount = amount;
+    cell = cell;
+    rates = rate;
+    choice = choice;
+    format = format;
+  }))
+
 -- what the matches of a parse hold
 abbrev pub rows_in : ArgMatches → List Row
 rows_in matches = rows_of (found_of matches)
@@ -122,6 +154,9 @@ demo_asked words = taken demo_app words >>= demo_of
 unfoldable pub voxels_asked : List Text → Option Request
 voxels_asked words = taken voxels_app words >>= voxels_of
 
+unfoldable pub tracer_asked : List Text → Option Request
+tracer_asked words = taken tracer_app words >>= tracer_of
+
 -- the first word is the command; the words of the command begin with it
 unfoldable pub request_of : List Text → Option Request
 request_of [] = None
@@ -130,4 +165,5 @@ request_of (name ∷ rest) =
     else if bytes_eq name (codes "check") then check_asked (name ∷ rest)
     else if bytes_eq name (codes "demo") then demo_asked (name ∷ rest)
     else if bytes_eq name (codes "voxels") then voxels_asked (name ∷ rest)
+    else if bytes_eq name (codes "tracer") then tracer_asked (name ∷ rest)
     else None

@@ -2,7 +2,7 @@
 
 ghost use Rattle.std.specs.Prelude.{◌≡◌, map, false, IfOk};
 ghost use Rattle.clap.specs.Words.{app_of, rule_of};
-ghost use Rattle.lbm_words.specs.Commands.{positional, option, with_rules, command_of, run_options, run_app, check_app, demo_app, voxels_app};
+ghost use Rattle.lbm_words.specs.Commands.{positional, option, with_rules, command_of, run_options, run_app, check_app, demo_app, voxels_app, tracer_app};
 
 use clap::{Arg, ArgAction, Command};
 use std::alloc::{AllocError, Global};
@@ -114,4 +114,14 @@ pub(crate) fn voxels_command<'a>(alloc: Global) -> Result<Command<'a>, AllocErro
     ensures { IfOk result (λ command. app_of command ≡ voxels_app) }
 {
     with_run_options(alloc, "voxels", &["file", "case", "steps", "out"])
+}
+
+/// `tracer CASE STEPS OUT TRACE AMOUNT CELL`.
+#[tactic(auto, unfolding(crate::specs::Commands::tracer_app))]
+pub(crate) fn tracer_command<'a>(alloc: Global) -> Result<Command<'a>, AllocError>
+    ensures { IfOk result (λ command. app_of command ≡ tracer_app) }
+{
+    let positionals = ["case", "steps", "out", "trace", "amount", "cell"];
+    let options = ["pattern", "workers", "cut", "tile", "format", "rate"];
+    command_of(alloc, "tracer", &positionals, &options)
 }

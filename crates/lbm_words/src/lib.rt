@@ -5,10 +5,11 @@ mod commands;
 mod end;
 mod names;
 mod numbers;
+mod rate;
 mod read;
 mod request;
 mod values;
 
 pub use end::WordsEnd;
 pub use read::request_of;
-pub use request::{Check, Choice, Demo, PatternKind, Request, Run, Voxels};
+pub use request::{Check, Choice, Demo, PatternKind, Request, Run, Tracer, Voxels};

@@ -41,13 +41,20 @@ fn each_number(alloc: Global, texts: &[&str]) -> Result<Vec<u32>, WordsEnd>
     Ok(numbers)
 }
 
+/// The numbers that a text spells, joined by single commas.
+pub(crate) fn numbers_between_commas(alloc: Global, text: &str) -> Result<Vec<u32>, WordsEnd>
+    ensures { Gives (λ numbers. numbers.items) result (each number_of (slice_split is_comma text.now)) }
+{
+    let parts = parts_of(alloc, text)?;
+    each_number(alloc, parts.as_slice())
+}
+
 /// At most 4095 numbers, joined by single commas.
 #[tactic(auto, unfolding(crate::specs::Numbers::numbers_of))]
 pub(crate) fn numbers_of(alloc: Global, text: &str) -> Result<Vec<u32>, WordsEnd>
     ensures { Gives (λ numbers. numbers.items) result (numbers_of text.now) }
 {
-    let parts = parts_of(alloc, text)?;
-    let numbers = each_number(alloc, parts.as_slice())?;
+    let numbers = numbers_between_commas(alloc, text)?;
     if numbers.len() > MOST_CUTS {
         return Err(WordsEnd::Usage);
     }

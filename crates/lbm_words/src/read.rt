@@ -4,16 +4,21 @@ ghost use Rattle.std.specs.Prelude.{◌≡◌, map, string_bytes, true, IfOk};
 ghost use Rattle.clap.specs.Words.{app_of, is_simple_and_free};
 ghost use Rattle.lbm_words.specs.Ends.{Gives};
 ghost use Rattle.lbm_words.specs.Request.{run_view, request_view, IsRequest};
-ghost use Rattle.lbm_words.specs.Words.{rows_in, taken, run_of, check_of, demo_of, voxels_of, run_asked, check_asked, demo_asked, voxels_asked, request_of};
+ghost use Rattle.lbm_words.specs.Words.{rows_in, taken, run_of, check_of, demo_of, voxels_of, tracer_of, run_asked, check_asked, demo_asked, voxels_asked, tracer_asked, request_of};
 
-use crate::commands::{check_command, demo_command, run_command, voxels_command};
+use crate::commands::{check_command, demo_command, run_command, tracer_command, voxels_command};
 use crate::end::WordsEnd;
-use crate::request::{Check, Demo, Request, Run, Voxels};
-use crate::values::{choice_of, format_of, is_other, required_number, steps_of, text_of, value};
+use crate::request::{Check, Demo, Request, Run, Tracer, Voxels};
+use crate::values::{
+    cell_of, choice_of, format_of, is_other, required_number, steps_of, text_of, tracer_rate_of,
+    value,
+};
 use clap::{ArgMatches, Command};
 use std::alloc::Global;
 
 const MOST_SIZE: u32 = 128;
+
+const MOST_AMOUNT: u32 = 16_777_216;
 
 /// What a command finds in the words.
 fn taken<'a>(command: Command<'a>, words: &'a [String]) -> Result<ArgMatches<'a>, WordsEnd>
@@ -96,6 +101,36 @@ fn voxels_of<'a>(alloc: Global, matches: &ArgMatches<'a>) -> Result<Request<'a>,
     Ok(Request::Voxels(Voxels { file, run }))
 }
 
+/// The run with a tracer that the values ask for.
+#[tactic(auto, unfolding(crate::specs::Words::tracer_of))]
+fn tracer_of<'a>(alloc: Global, matches: &ArgMatches<'a>) -> Result<Request<'a>, WordsEnd>
+    ensures { Gives request_view result (tracer_of (rows_in matches.now)) }
+{
+    let case = text_of(matches, "case")?;
+    let steps = steps_of(matches)?;
+    let out = text_of(matches, "out")?;
+    let trace = text_of(matches, "trace")?;
+    let amount = required_number(matches, "amount", 1, MOST_AMOUNT)?;
+    let cell = cell_of(matches)?;
+    let rates = tracer_rate_of(alloc, matches)?;
+    let choice = choice_of(alloc, matches)?;
+    let format = format_of(matches)?;
+    if case == out || case == trace || out == trace {
+        return Err(WordsEnd::Usage);
+    }
+    Ok(Request::Tracer(Tracer {
+        case,
+        steps,
+        out,
+        trace,
+        amount,
+        cell,
+        rates,
+        choice,
+        format,
+    }))
+}
+
 /// The run that the words ask for.
 #[tactic(auto, unfolding(crate::specs::Words::run_asked))]
 fn read_run<'a>(alloc: Global, words: &'a [String]) -> Result<Request<'a>, WordsEnd>
@@ -136,6 +171,16 @@ fn read_voxels<'a>(alloc: Global, words: &'a [String]) -> Result<Request<'a>, Wo
     voxels_of(alloc, &matches)
 }
 
+/// The run with a tracer that the words ask for.
+#[tactic(auto, unfolding(crate::specs::Words::tracer_asked))]
+fn read_tracer<'a>(alloc: Global, words: &'a [String]) -> Result<Request<'a>, WordsEnd>
+    ensures { Gives request_view result (tracer_asked (map string_bytes words.now)) }
+{
+    let command = tracer_command(alloc)?;
+    let matches = taken(command, words)?;
+    tracer_of(alloc, &matches)
+}
+
 /// What the words after the program's name ask for: the first one is the command. `Usage` is answered exactly where they
 /// ask for nothing that the program does.
 #[tactic(auto, unfolding(crate::specs::Words::request_of))]
@@ -152,6 +197,7 @@ pub fn request_of<'a>(alloc: Global, words: &'a [String]) -> Result<Request<'a>,
         "check" => read_check(alloc, words),
         "demo" => read_demo(alloc, words),
         "voxels" => read_voxels(alloc, words),
+        "tracer" => read_tracer(alloc, words),
         _ => Err(WordsEnd::Usage),
     }
 }

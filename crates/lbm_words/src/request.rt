@@ -1,5 +1,6 @@
 //! What the words ask for.
 
+use lbm_cell::Rates;
 use lbm_vtk::Format;
 
 /// How populations are kept, and moved from cell to cell.
@@ -82,6 +83,29 @@ pub struct Voxels<'a> {
     pub run: Run<'a>,
 }
 
+/// A run of a case with a tracer in its flow.
+#[derive(Debug, Drop)]
+pub struct Tracer<'a> {
+    /// The name of the file with the case.
+    pub case: &'a str,
+    /// The number of the last step, at most 1000000.
+    pub steps: u32,
+    /// The name of the file for the result of the flow.
+    pub out: &'a str,
+    /// The name of the file for the result of the tracer.
+    pub trace: &'a str,
+    /// How much of the tracer there is, from 1 to 16777216.
+    pub amount: u32,
+    /// The number of the cell in which it begins.
+    pub cell: u32,
+    /// Its rate of relaxation.
+    pub rates: Rates,
+    /// How the lattice is worked through.
+    pub choice: Choice,
+    /// How the numbers of the flow's result are written.
+    pub format: Format,
+}
+
 /// What the words ask for.
 #[derive(Debug, Drop)]
 pub enum Request<'a> {
@@ -93,4 +117,6 @@ pub enum Request<'a> {
     Demo(Demo<'a>),
     /// A run of a case in the geometry of a voxel file.
     Voxels(Voxels<'a>),
+    /// A run of a case with a tracer in its flow.
+    Tracer(Tracer<'a>),
 }

@@ -3,17 +3,21 @@
 ghost use Rattle.std.specs.Prelude.{◌≡◌, Some, None, codes, option_map};
 ghost use Rattle.clap.specs.Words.{first_of};
 ghost use Rattle.lbm_words.specs.Ends.{Gives};
+ghost use Rattle.lbm_number.specs.Number.{number_of};
 ghost use Rattle.lbm_words.specs.Numbers.{number_between, numbers_of};
 ghost use Rattle.lbm_words.specs.Names.{pattern_named};
 ghost use Rattle.lbm_words.specs.Request.{choice_view};
-ghost use Rattle.lbm_words.specs.Words.{rows_in, required, optional, steps_of, format_of, choice_of, is_other};
+ghost use Rattle.lbm_words.specs.Words.{rows_in, required, optional, steps_of, format_of, choice_of, is_other, tracer_rate_of};
 
 use crate::end::WordsEnd;
 use crate::names::{format_named, pattern_named};
 use crate::numbers::{number_between, numbers_of};
+use crate::rate::{rate, rate_of};
 use crate::request::{Choice, PatternKind};
 use clap::ArgMatches;
+use lbm_cell::Rates;
 use lbm_model::MOST_STEPS;
+use lbm_number::number_of;
 use lbm_vtk::Format;
 use std::alloc::Global;
 
@@ -116,6 +120,24 @@ pub(crate) fn choice_of(alloc: Global, matches: &ArgMatches<'_>) -> Result<Choic
         cut,
         tile,
     })
+}
+
+/// The number of the cell in which a tracer begins.
+pub(crate) fn cell_of(matches: &ArgMatches<'_>) -> Result<u32, WordsEnd>
+    ensures { Gives (λ n. n) result (required number_of (codes "cell") (rows_in matches.now)) }
+{
+    let text = text_of(matches, "cell")?;
+    number_of(text.as_bytes()).ok_or(WordsEnd::Usage)
+}
+
+/// The rate of a tracer, which is 1 where the option is absent.
+pub(crate) fn tracer_rate_of(alloc: Global, matches: &ArgMatches<'_>) -> Result<Rates, WordsEnd>
+    ensures { Gives (λ rate. rate) result (tracer_rate_of (rows_in matches.now)) }
+{
+    match value(matches, "rate") {
+        Some(text) => rate_of(alloc, text),
+        None => rate(1, 1).ok_or(WordsEnd::Usage),
+    }
 }
 
 /// Whether a name that may be absent is another one.

@@ -1,4 +1,4 @@
-use Rattle.std.proofs.Common.{◌≡◌, ℕ, ◌+◌, ◌*◌, ap, ◌∙◌, arith}
+use Rattle.std.proofs.Common.{◌≡◌, ◌+◌, ◌*◌, ap, ◌∙◌, arith}
 use Rattle.std.proofs.lemmas.Nat.{mul-add-lt}
 use Rattle.lbm_space.specs.Torus.{Torus, rows}
 use Rattle.lbm_rows.proofs.lending.lent_number.Goals as goal

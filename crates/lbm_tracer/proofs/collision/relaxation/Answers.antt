@@ -1,4 +1,4 @@
-use Rattle.std.proofs.Common.{◌≡◌, ◌<◌, ◌≤◌, ◌^◌, ◌*◌, ◌*ℤ◌, ◌≤ℤ◌, ◌<ℤ◌, pos, negsuc, unsigned_abs, ℤ, to_z, of_z, w64, ap, sym, ◌∙◌, arith}
+use Rattle.std.proofs.Common.{◌≡◌, ◌≤◌, ◌^◌, ◌*◌, ◌*ℤ◌, ◌≤ℤ◌, ◌<ℤ◌, pos, negsuc, unsigned_abs, ℤ, to_z, of_z, w64, ◌∙◌, arith}
 use Rattle.std.proofs.lemmas.Int.{ints}
 use Rattle.std.proofs.Math.Nat.{mul-le-mul_right}
 use Rattle.std.proofs.lemmas.Nat.{mul-le}
@@ -36,11 +36,11 @@ divisor s (negsuc q) least most above at_most = absurd (omega (arith, ints))
 scale_small : (s : ℤ) → pos 2654208 ≤ℤ s → s ≤ℤ pos 14155776 → unsigned_abs s ≤ 14155776
 scale_small s least most = omega (arith, ints)
 
--- a positive number is not the word for -1
-not_minus_one : (x : ℤ) → pos 0 <ℤ x → unsigned_abs x < 2 ^ 62 → of_z w64 x ≡ 18446744073709551615 → ⊥
-not_minus_one x above size e =
-    let h : x ≡ negsuc 0 = sym (held x size) ∙ ap (to_z w64) e in
-    absurd (omega (arith, ints))
+from_one : (x : ℤ) → pos 0 <ℤ x → pos 1 ≤ℤ x
+from_one x above = omega (arith, ints)
+
+at_most : (x : ℤ) → pos 0 <ℤ x → unsigned_abs x ≤ 14155776 * 1024 → x ≤ℤ pos 34359738368
+at_most x above size = omega (arith, ints)
 
 pub overflow_mul-p : goal.overflow_mul-p
 overflow_mul-p c =
@@ -56,13 +56,26 @@ overflow_mul-scale c =
     let d = divisor s r.q c.requires.least c.requires.most c.p.ensures.valid.q_above c.p.ensures.valid.q_at_most in
     rw (c.q.ensures.value, held s (omega (arith, scale_small s c.requires.least c.requires.most)), held r.q (omega (arith, q_small))) (fits (s *ℤ r.q) (omega (arith, d.size)))
 
-pub div_euclid-requires-clause-no_overflow : goal.div_euclid-requires-clause-no_overflow
-div_euclid-requires-clause-no_overflow c =
+pub quotient-requires-clause-small : goal.quotient-requires-clause-small
+quotient-requires-clause-small c =
+    let r = c.args.rates in let b = c.args.below in
+    let p_small = small r.p c.p.ensures.valid.p_above c.p.ensures.valid.p_at_most in
+    let size = product_size r.p b 1024 1009371525808128 p_small c.requires.below in
+    rw (c.p.ensures.value, held r.p (omega (arith, p_small)), held b (omega (arith, c.requires.below)), held (r.p *ℤ b) (omega (arith, size))) (omega (arith, size))
+
+pub quotient-requires-clause-some : goal.quotient-requires-clause-some
+quotient-requires-clause-some c =
     let r = c.args.rates in let s = c.args.scale in
     let q_small = small r.q c.p.ensures.valid.q_above c.p.ensures.valid.q_at_most in
     let d = divisor s r.q c.requires.least c.requires.most c.p.ensures.valid.q_above c.p.ensures.valid.q_at_most in
-    rw (c.q.ensures.value, held s (omega (arith, scale_small s c.requires.least c.requires.most)), held r.q (omega (arith, q_small)), held (s *ℤ r.q) (omega (arith, d.size)))
-    (λ e _. not_minus_one (s *ℤ r.q) d.above (omega (arith, d.size)) e)
+    rw (c.q.ensures.value, held s (omega (arith, scale_small s c.requires.least c.requires.most)), held r.q (omega (arith, q_small)), held (s *ℤ r.q) (omega (arith, d.size))) (from_one (s *ℤ r.q) d.above)
+
+pub quotient-requires-clause-few : goal.quotient-requires-clause-few
+quotient-requires-clause-few c =
+    let r = c.args.rates in let s = c.args.scale in
+    let q_small = small r.q c.p.ensures.valid.q_above c.p.ensures.valid.q_at_most in
+    let d = divisor s r.q c.requires.least c.requires.most c.p.ensures.valid.q_above c.p.ensures.valid.q_at_most in
+    rw (c.q.ensures.value, held s (omega (arith, scale_small s c.requires.least c.requires.most)), held r.q (omega (arith, q_small)), held (s *ℤ r.q) (omega (arith, d.size))) (at_most (s *ℤ r.q) d.above d.size)
 
 -- what the quotient is, and how large
 quotient : (r : RelaxationRates) (p q s b z : ℤ) → IsRates r → p ≡ r.p → q ≡ r.q → pos 2654208 ≤ℤ s → s ≤ℤ pos 14155776 → unsigned_abs b ≤ 1009371525808128
@@ -78,12 +91,12 @@ quotient r p q s b z allowed p_is q_is least most below is =
 
 pub returns-clause-value : goal.returns-clause-value
 returns-clause-value c =
-    let z = c.div_euclid.result in
-    let made = quotient c.args.rates c.p.result c.q.result c.args.scale c.args.below z c.p.ensures.valid c.p.ensures.value c.q.ensures.value c.requires.least c.requires.most c.requires.below c.div_euclid.ensures in
+    let z = c.quotient.result in
+    let made = quotient c.args.rates c.p.result c.q.result c.args.scale c.args.below z c.p.ensures.valid c.p.ensures.value c.q.ensures.value c.requires.least c.requires.most c.requires.below c.quotient.ensures in
     held z (omega (arith, made.1)) ∙ made.0
 
 pub returns-clause-size : goal.returns-clause-size
 returns-clause-size c =
-    let z = c.div_euclid.result in
-    let made = quotient c.args.rates c.p.result c.q.result c.args.scale c.args.below z c.p.ensures.valid c.p.ensures.value c.q.ensures.value c.requires.least c.requires.most c.requires.below c.div_euclid.ensures in
+    let z = c.quotient.result in
+    let made = quotient c.args.rates c.p.result c.q.result c.args.scale c.args.below z c.p.ensures.valid c.p.ensures.value c.q.ensures.value c.requires.least c.requires.most c.requires.below c.quotient.ensures in
     rw (held z (omega (arith, made.1))) made.1

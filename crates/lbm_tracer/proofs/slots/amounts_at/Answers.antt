@@ -1,17 +1,19 @@
-use Rattle.std.proofs.Common.{◌≢◌, ◌<◌, FitsSigned, w64, length, ap, ◌∙◌, arith, rules, get_or-set_same, get_or-set_other, length-set, below_more}
-use Rattle.std.proofs.lemmas.Int.{to_z-of_z}
-use Rattle.lbm_space.specs.Stencil.{Stencil}
+use Rattle.std.proofs.Common.{◌≡◌, ℕ, ◌%◌, ◌<◌, List, slice_index_or, sym, ap, subst, ◌∙◌}
+use Rattle.lbm_space.specs.Torus.{Torus}
 use Rattle.lbm_tracer.specs.Tracing.{set_in}
-use Rattle.lbm_tracer.proofs.Sets.{set_facts}
+use Rattle.lbm_tracer.specs.Carried.{amount_in}
+use Rattle.lbm_tracer.specs.Rows.{cell_at}
+use Rattle.lbm_tracer.proofs.Rows.{row_known, row_cell}
 use Rattle.lbm_tracer.proofs.slots.amounts_at.Goals as goal
 
-pub loop-k-preserved : goal.loop-k-preserved
-loop-k-preserved g c =
-    let k = c.loop-k.k in let old = c.loop-k.invariant in let t = c.args.space.now in
-    let known : k < (set_in t).directions = omega (arith, c.loop-k-test.true, c.q-k-end.ensures ∙ ap (λ (v : Stencil). v.directions) c.of.ensures) in
-    let within : k < length c.loop-k.amounts = omega (arith, old.kept, known, (set_facts t.dimension).few) in
-    let fits : FitsSigned w64 c.amount_at.result = search rules in
-    record {
-      done = below_more _ _ (λ j below. let ne : j ≢ k = omega arith in rw get_or-set_other (old.done j below)) (rw (get_or-set_same, to_z-of_z w64 c.amount_at.result fits) c.amount_at.ensures);
-      kept = length-set _ _ _ ∙ old.kept;
-    }
+pub of-row-requires : goal.of-row-requires
+of-row-requires g c =
+    let t = c.args.space.now in let wide : slice_index_or c.sides.result 0 0 ≡ t.nx = ap (λ (s : List ℕ). slice_index_or s 0 0) c.sides.ensures.value in
+    rw wide (row_known t c.args.cell c.sides.ensures.valid c.requires.cell)
+
+pub returns : goal.returns
+returns g c =
+    let t = c.args.space.now in let w = slice_index_or c.sides.result 0 0 in let r = c.of-row.result in let e = c.of-row.ensures in let slots = c.args.region.now.slots in
+    let wide : w ≡ t.nx = ap (λ (s : List ℕ). slice_index_or s 0 0) c.sides.ensures.value in
+    let at : cell_at r (c.args.cell % w) ≡ c.args.cell = row_cell r t w c.args.cell e.row e.space wide e.number in
+    λ k known. c.amounts_in_row.ensures k (subst (λ (u : Torus). k < (set_in u).directions) (sym e.space) known) ∙ (λ j. amount_in (e.space j) (e.time j) slots (at j) k)

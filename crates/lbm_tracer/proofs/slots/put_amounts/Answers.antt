@@ -1,33 +1,30 @@
-use Rattle.std.proofs.Common.{◌<◌, FitsSigned, to_z, of_z, w64, ap, subst, ◌∙◌, inl, inr, arith, rules}
-use Rattle.std.proofs.lemmas.Bool.{cases_eq}
-use Rattle.std.proofs.lemmas.Int.{to_z-of_z}
-use Rattle.lbm_space.specs.Stencil.{Stencil}
-use Rattle.lbm_space.specs.Torus.{IsSpace}
-use Rattle.lbm_cell.specs.Moments.{populations}
-use Rattle.lbm_arrays.proofs.Padding.{same_again}
-use Rattle.lbm_sweep.proofs.Lattices.{region_again}
+use Rattle.std.proofs.Common.{◌≡◌, ℕ, ◌%◌, ◌<◌, List, slice_index_or, sym, ap, subst, ◌∙◌}
+use Rattle.lbm_space.specs.Torus.{Torus, cells}
 use Rattle.lbm_tracer.specs.Tracing.{set_in}
-use Rattle.lbm_tracer.proofs.Putting.{laid_again, put}
+use Rattle.lbm_tracer.specs.Carried.{amount_in}
+use Rattle.lbm_tracer.specs.Rows.{cell_at}
+use Rattle.lbm_tracer.proofs.Rows.{row_known, row_cell}
 use Rattle.lbm_tracer.proofs.slots.put_amounts.Goals as goal
 
-pub loop-k-preserved : goal.loop-k-preserved
-loop-k-preserved g c =
-    let t = c.args.space.now in let r = c.args.region.now in let l = c.loop-k.region in let x = c.args.cell in let here = c.requires.cell in
-    let k = c.loop-k.k in let old = c.loop-k.invariant in
-    let known : k < (set_in t).directions = omega (arith, c.loop-k-test.true, c.q-k-end.ensures ∙ ap (λ (v : Stencil). v.directions) c.of.ensures) in
-    let space : IsSpace t = subst IsSpace c.requires.laid.space c.slots.ensures.valid.space in
-    let laid = laid_again t r l old.same c.requires.laid in
-    let region = region_again r l old.same old.size c.slots.ensures.valid in
-    let a = populations c.args.amounts.now k in
-    let fits : FitsSigned w64 a = search rules in
-    let made = put t space l laid region c.args.time x k c.slot-array.result.0 c.slot-array.result.1 (to_z w64 (of_z w64 a)) c.put.new.self here known
-    c.slot-array.ensures.array c.slot-array.ensures.place c.put.ensures in
-    record {
-      same = same_again r l c.put.new.self old.same made.same;
-      size = made.size ∙ old.size;
-      here = λ j below. elim (cases_eq j k) [
-        | inl one ↦ rw one (made.here ∙ to_z-of_z w64 a fits)
-        | inr ne ↦ made.others x j here (omega (arith, known, below)) (λ both. ne both.1) ∙ old.here j (omega arith)
-      ];
-      others = λ y j there known_j other. made.others y j there known_j (λ both. other both.0) ∙ old.others y j there known_j other;
-    }
+pub of-row-requires : goal.of-row-requires
+of-row-requires g c =
+    let t = c.args.space.now in let wide : slice_index_or c.sides.result 0 0 ≡ t.nx = ap (λ (s : List ℕ). slice_index_or s 0 0) c.sides.ensures.value in
+    rw wide (row_known t c.args.cell c.sides.ensures.valid c.requires.cell)
+
+pub returns-clause-here : goal.returns-clause-here
+returns-clause-here g c =
+    let t = c.args.space.now in let w = slice_index_or c.sides.result 0 0 in let r = c.of-row.result in let e = c.of-row.ensures in let new = c.put_in_row.new.region.slots in
+    let wide : w ≡ t.nx = ap (λ (s : List ℕ). slice_index_or s 0 0) c.sides.ensures.value in
+    let at : cell_at r (c.args.cell % w) ≡ c.args.cell = row_cell r t w c.args.cell e.row e.space wide e.number in
+    λ k known. (λ j. amount_in (sym e.space j) (sym e.time j) new (sym at j) k) ∙ c.put_in_row.ensures.here k (subst (λ (u : Torus). k < (set_in u).directions) (sym e.space) known)
+
+pub returns-clause-others : goal.returns-clause-others
+returns-clause-others g c =
+    let t = c.args.space.now in let w = slice_index_or c.sides.result 0 0 in let r = c.of-row.result in let e = c.of-row.ensures in
+    let new = c.put_in_row.new.region.slots in let old = c.args.region.now.slots in
+    let wide : w ≡ t.nx = ap (λ (s : List ℕ). slice_index_or s 0 0) c.sides.ensures.value in
+    let at : cell_at r (c.args.cell % w) ≡ c.args.cell = row_cell r t w c.args.cell e.row e.space wide e.number in
+    λ y k there known ne.
+    (λ j. amount_in (sym e.space j) (sym e.time j) new y k)
+    ∙ c.put_in_row.ensures.others y k (subst (λ (u : Torus). y < cells u) (sym e.space) there) (subst (λ (u : Torus). k < (set_in u).directions) (sym e.space) known) (λ same. ne (same ∙ at))
+    ∙ (λ j. amount_in (e.space j) (e.time j) old y k)

@@ -1,61 +1,46 @@
-use Rattle.std.proofs.Common.{◌≡◌, ℕ, ◌^◌, ◌<◌, ◌≤◌, unsigned_abs, sym, subst, ◌∙◌, arith}
-use Rattle.lbm_space.specs.Stencil.{Stencil}
-use Rattle.lbm_space.specs.Torus.{Torus, IsSpace, cells}
-use Rattle.lbm_cell.specs.Moments.{populations}
-use Rattle.lbm_cell.specs.Collision.{reflection}
-use Rattle.lbm_cell.proofs.Least.{least_failing-none}
+use Rattle.std.proofs.Common.{◌≡◌, ℕ, ◌+◌, ◌*◌, ◌<◌, ◌≤◌, Ok, Err, ap, subst, ◌∙◌, arith}
+use Rattle.std.proofs.lemmas.Result.{err_from_is_err_and}
+use Rattle.lbm_space.specs.Torus.{Torus, cells, rows}
 use Rattle.lbm_model.specs.State.{population}
-use Rattle.lbm_model.specs.Flow.{is_sound}
+use Rattle.lbm_model.specs.Case.{FlowCase}
 use Rattle.lbm_arrays.proofs.Padding.{same_again}
-use Rattle.lbm_tracer.specs.Tracing.{set_in, tracer_post, is_tracer_sound}
-use Rattle.lbm_tracer.specs.Carried.{tracer_state_in}
-use Rattle.lbm_tracer.proofs.Agreement.{sound-same}
-use Rattle.lbm_tracer.proofs.Sending.{OneSends, taken-old, sent-more, kept-more, few-more, sent-all, few-turn}
+use Rattle.lbm_sweep.proofs.CellRows.{rows_known}
+use Rattle.lbm_tracer.specs.Collision.{IsMomentOf}
+use Rattle.lbm_tracer.specs.Carried.{AreFew, amount_in}
+use Rattle.lbm_tracer.specs.FlowRows.{HasRoom, moment_at}
+use Rattle.lbm_tracer.specs.Sending.{HaveSent, RowGoes}
+use Rattle.lbm_tracer.proofs.Sending.{row-goes, stopped-early}
 use Rattle.lbm_tracer.proofs.step.send_all.Goals as goal
 
-pub post-sent-requires-clause-sound : goal.post-sent-requires-clause-sound
-post-sent-requires-clause-sound g c =
-    let now = g.P.Lattice.standing c.args.flow.now in let x = c.loop-cell.cell in
-    let here : x < cells now.case.torus = rw c.requires.space (omega (arith, c.loop-cell-test.true, c.cells-cell-end.ensures.count)) in
-    least_failing-none (cells now.case.torus) (λ y. is_sound now.case y (population now.state y)) c.requires.flow_sound x here
+pub returns-in_err-send_row-clause-sent : goal.returns-in_err-send_row-clause-sent
+returns-in_err-send_row-clause-sent g c =
+    let now = g.P.Lattice.standing c.args.flow.now in let t = c.args.space.now in let rates = c.args.rates in let time = c.args.time in let number = c.loop-number.number in
+    let row = c.of-row.result in let e = c.of-row.ensures in let m = moment_at c.read.new.self in let end = c.in_err-send_row.field-0.0 in
+    let l = c.loop-number.region.slots in let new = c.send_row.new.region.slots in let first = c.args.region.now.slots in
+    let goes : RowGoes now.case rates row m l new (Err end) = subst (λ (w : FlowCase). RowGoes w rates row m l new (Err end)) c.case.ensures.value c.in_err-send_row.ensures.sent in
+    let moments = subst (λ (u : Torus). (x : ℕ) → x < u.nx → IsMomentOf now.case.stencil (population now.state (number * u.nx + x)) (m x)) c.requires.space c.read.ensures.moments in
+    let few : (number + 1) * t.nx ≤ cells t = rows_known t (number + 1) (omega (arith, c.loop-number-test.true, c.rows-number-end.ensures.count)) in
+    let stopped = row-goes now.case rates row m l new (Err end) t time number e.row e.space e.time e.number goes now.state first moments c.loop-number.invariant.sent in
+    let p = err_from_is_err_and c.from_residual.result c.from_residual.ensures.1 in
+    rw (p.1, p.2) (stopped-early now.case rates now.state time first new ((number + 1) * t.nx) (cells t) end few stopped)
 
-pub post-sent-requires-clause-limits : goal.post-sent-requires-clause-limits
-post-sent-requires-clause-limits g c =
-    let now = g.P.Lattice.standing c.args.flow.now in let case = now.case in let x = c.loop-cell.cell in let t = c.args.space.now in
-    let r = c.args.region.now in let l = c.loop-cell.region in let s = tracer_state_in t c.args.time r.slots in let a = populations c.amounts_at-amounts.result in
-    let here : x < cells t = omega (arith, c.loop-cell-test.true, c.cells-cell-end.ensures.count) in
-    let here' : x < cells case.torus = rw c.requires.space here in
-    let first = taken-old case c.args.rates now.state c.args.time t r.slots l.slots x a here c.loop-cell.invariant.kept c.amounts_at-amounts.ensures in
-    let same = subst (λ (u : Torus). (k : ℕ) → k < (set_in u).directions → a k ≡ population s x k) (sym c.requires.space) first in
-    sound-same case x a (population s x) same ∙ least_failing-none (cells case.torus) (λ y. is_tracer_sound case y (population s y)) c.requires.sound x here'
-
-pub loop-cell-preserved : goal.loop-cell-preserved
-loop-cell-preserved g c =
-    let now = g.P.Lattice.standing c.args.flow.now in let case = now.case in let rates = c.args.rates in let s = now.state in let t = c.args.space.now in let time = c.args.time in
-    let r = c.args.region.now in let l = c.loop-cell.region in let new = c.put_amounts.new.region in let x = c.loop-cell.cell in let old = c.loop-cell.invariant in
-    let here : x < cells t = omega (arith, c.loop-cell-test.true, c.cells-cell-end.ensures.count) in
-    let space : IsSpace t = c.cells-cell-end.ensures.valid in
-    let a = populations c.amounts_at-amounts.result in let p = populations c.post-sent.result in let w = populations c.turn_back.result in
-    let one : OneSends case rates s time t l.slots new.slots x a p w = record {
-      taken = c.amounts_at-amounts.ensures;
-      made = subst (λ (u : Torus). (k : ℕ) → k < (set_in u).directions → p k ≡ tracer_post case rates s x a k) c.requires.space c.post-sent.ensures.value;
-      small = subst (λ (u : Torus). (k : ℕ) → k < (set_in u).directions → unsigned_abs (p k) ≤ 2 ^ 35) c.requires.space c.post-sent.ensures.few;
-      turned = subst (λ (v : Stencil). (k : ℕ) → k < v.directions → w k ≡ reflection v p k) c.of-set.ensures c.turn_back.ensures;
-      put = c.put_amounts.ensures.here;
-      others = c.put_amounts.ensures.others;
-    } in
+pub loop-number-preserved : goal.loop-number-preserved
+loop-number-preserved g c =
+    let now = g.P.Lattice.standing c.args.flow.now in let t = c.args.space.now in let rates = c.args.rates in let time = c.args.time in let number = c.loop-number.number in
+    let row = c.of-row.result in let e = c.of-row.ensures in let m = moment_at c.read.new.self in let done = c.in_ok-send_row.field-0 in
+    let l = c.loop-number.region in let new = c.send_row.new.region in let first = c.args.region.now.slots in
+    let goes : RowGoes now.case rates row m l.slots new.slots (Ok done) = subst (λ (w : FlowCase). RowGoes w rates row m l.slots new.slots (Ok done)) c.case.ensures.value c.in_ok-send_row.ensures.sent in
+    let moments = subst (λ (u : Torus). (x : ℕ) → x < u.nx → IsMomentOf now.case.stencil (population now.state (number * u.nx + x)) (m x)) c.requires.space c.read.ensures.moments in
     record {
-      same = same_again r l new old.same c.put_amounts.ensures.same;
-      sent = sent-more case rates s time t r.slots l.slots new.slots x a p w c.requires.space space here one old.sent old.kept;
-      kept = kept-more case rates s time t r.slots l.slots new.slots x a p w one old.kept;
-      few = few-more case rates s time t l.slots new.slots x a p w space one old.few;
+      same = same_again c.args.region.now l new c.loop-number.invariant.same c.send_row.ensures.same;
+      few = subst (λ (w : Torus × ℕ). AreFew w.0 (amount_in w.0 w.1 new.slots)) (λ j. (e.space j, e.time j)) c.send_row.ensures.few;
+      room = subst (λ (u : Torus). HasRoom u.nx c.read.new.self) c.requires.space c.read.ensures.room;
+      sent = row-goes now.case rates row m l.slots new.slots (Ok done) t time number e.row e.space e.time e.number goes now.state first moments c.loop-number.invariant.sent;
     }
 
-pub returns-clause-state : goal.returns-clause-state
-returns-clause-state g c =
+pub returns-clause-sent : goal.returns-clause-sent
+returns-clause-sent g c =
     let now = g.P.Lattice.standing c.args.flow.now in let t = c.args.space.now in
-    sent-all now.case c.args.rates now.state c.args.time t c.args.region.now.slots c.loop-cell.region.slots c.requires.space c.cells-cell-end.ensures.valid
-    (λ x k here known. c.loop-cell.invariant.sent x k (omega (arith, here, c.loop-cell-test.false, c.cells-cell-end.ensures.count)) known)
-
-pub returns-clause-few : goal.returns-clause-few
-returns-clause-few g c = few-turn c.args.space.now c.args.time c.loop-cell.region.slots c.cells-cell-end.ensures.valid c.loop-cell.invariant.few
+    let all : c.loop-number.number ≡ rows t = omega (arith, c.loop-number-test.false, c.rows-number-end.ensures.count, c.loop-number.auto.number-end) in
+    let whole : c.loop-number.number * t.nx ≡ cells t = ap (λ (n : ℕ). n * t.nx) all ∙ omega arith in
+    subst (HaveSent now.case c.args.rates now.state c.args.time c.args.region.now.slots c.loop-number.region.slots) whole c.loop-number.invariant.sent
