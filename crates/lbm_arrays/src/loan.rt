@@ -170,14 +170,8 @@ fn write_block(patch: &mut Patch<i64>, first: usize, v: [i64; 8])
     ensures mine { patch.new.mine ≡ patch.old.mine }
     ensures places { (patch.new.ptr ≡ patch.old.ptr) × (patch.new.len ≡ patch.old.len) }
 {
-    patch.put(first, v[0]);
-    patch.put(first + 1, v[1]);
-    patch.put(first + 2, v[2]);
-    patch.put(first + 3, v[3]);
-    patch.put(first + 4, v[4]);
-    patch.put(first + 5, v[5]);
-    patch.put(first + 6, v[6]);
-    patch.put(first + 7, v[7]);
+    patch.put_four(first, v[0], v[1], v[2], v[3]);
+    patch.put_four(first + 4, v[4], v[5], v[6], v[7]);
 }
 
 // Writes the n slots from `first` on.

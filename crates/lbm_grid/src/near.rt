@@ -127,11 +127,6 @@ impl<V: VelocitySet, W: Way> Taking<V> for PlacesNear<'_, W> {
         loan.load_block(self.to[dir], place)
     }
 
-    #[inline(always)]
-    fn bring(&self, _loan: &mut Loan<'_>, _at: u32, _width: u32) -> bool {
-        false
-    }
-
     ghost still_fits = { λ w writes a b from to but fit. (fit.0, λ i known. fit.1 i known ∙ ap (λ (p : Place). first_slot p i) (sym but.place), subst (λ (len : ℕ). AreThere W.RISES V.stencil.directions (length w.saved.now) len w.readings) (sym but.wide) fit.2, fit.3) };
 
     ghost still_pending = { λ w a b at n i p but past. seen_pending W.RISES w.saved.now a b i (reading_at w.readings i) at n p but past };

@@ -1,7 +1,7 @@
 // Velocity sets in space: a fluid at rest, and what a force gives it.
-use lbm_cell::{Force, Moment, Rates, UNIT, bounce, collide, first_pops, in_limits, moment};
+use lbm_cell::{Force, MAX_Q, Moment, Rates, UNIT, bounce, collide, first_pops, in_limits, moment};
 use lbm_sets::{D3Q15, D3Q27};
-use std::test::Fail;
+use lbm_space::VelocitySet;
 
 // The momentum that a force of 1 along x gives a cell of the unit density.
 fn pushed(jx: i64) -> Moment {
@@ -13,38 +13,48 @@ fn pushed(jx: i64) -> Moment {
     }
 }
 
-// 884736 times 16, 8 and 1 over 72. At its equilibrium nothing is rounded, and a force gives 72 / 3.
-#[test]
-fn a_fluid_rests_in_fifteen_directions(rt: HostRuntime) -> Result<(), Fail> {
-    let rates = Rates::new(1, 1).ok_or("in range")?;
-    let force = Force::new(1, 0, 0).ok_or("in range")?;
-    let first = first_pops::<D3Q15>(UNIT, [0, 0, 0]);
-    let shares = [
-        196608, 98304, 98304, 98304, 98304, 98304, 98304, 12288, 12288, 12288, 12288, 12288, 12288,
-        12288, 12288, 0, 0, 0, 0, 0, 0, 0, 0, 0, 0, 0, 0,
-    ];
-    assert_eq!(rt; first.f, shares);
-    assert_eq!(rt; bounce::<D3Q15>(&first), first);
-    assert!(rt; in_limits::<D3Q15>(&first));
-    let once = collide::<D3Q15>(&first, rates, force);
-    assert_eq!(rt; moment::<D3Q15>(&once), pushed(24));
-    Ok(())
+// What differs where a fluid at rest is to have these populations, and a force of 1 along x gives it this momentum.
+fn differing<V: VelocitySet>(shares: &[i64; MAX_Q], gained: i64) -> Option<&'static str> {
+    let (Some(rates), Some(force)) = (Rates::new(1, 1), Force::new(1, 0, 0)) else {
+        return Some("what is in range");
+    };
+    let first = first_pops::<V>(UNIT, [0, 0, 0]);
+    if first.f != *shares {
+        return Some("the populations");
+    }
+    if bounce::<V>(&first) != first {
+        return Some("the bounced ones");
+    }
+    if !in_limits::<V>(&first) {
+        return Some("the limits");
+    }
+    let once = collide::<V>(&first, rates, force);
+    if moment::<V>(&once) != pushed(gained) {
+        return Some("the momentum");
+    }
+    None
 }
 
-// 884736 times 64, 16, 4 and 1 over 216, where 884736 / 216 is 4096. A force gives 216 / 3.
+// 884736 times 16, 8 and 1 over 72.
+const FIFTEEN: [i64; MAX_Q] = [
+    196608, 98304, 98304, 98304, 98304, 98304, 98304, 12288, 12288, 12288, 12288, 12288, 12288,
+    12288, 12288, 0, 0, 0, 0, 0, 0, 0, 0, 0, 0, 0, 0,
+];
+
+// 884736 times 64, 16, 4 and 1 over 216, where 884736 / 216 is 4096.
+const TWENTY_SEVEN: [i64; MAX_Q] = [
+    262144, 65536, 65536, 65536, 65536, 65536, 65536, 16384, 16384, 16384, 16384, 16384, 16384,
+    16384, 16384, 16384, 16384, 16384, 16384, 4096, 4096, 4096, 4096, 4096, 4096, 4096, 4096,
+];
+
+// At its equilibrium nothing is rounded, and a force gives 72 / 3.
 #[test]
-fn a_fluid_rests_in_twenty_seven_directions(rt: HostRuntime) -> Result<(), Fail> {
-    let rates = Rates::new(1, 1).ok_or("in range")?;
-    let force = Force::new(1, 0, 0).ok_or("in range")?;
-    let first = first_pops::<D3Q27>(UNIT, [0, 0, 0]);
-    let shares = [
-        262144, 65536, 65536, 65536, 65536, 65536, 65536, 16384, 16384, 16384, 16384, 16384, 16384,
-        16384, 16384, 16384, 16384, 16384, 16384, 4096, 4096, 4096, 4096, 4096, 4096, 4096, 4096,
-    ];
-    assert_eq!(rt; first.f, shares);
-    assert_eq!(rt; bounce::<D3Q27>(&first), first);
-    assert!(rt; in_limits::<D3Q27>(&first));
-    let once = collide::<D3Q27>(&first, rates, force);
-    assert_eq!(rt; moment::<D3Q27>(&once), pushed(72));
-    Ok(())
+fn a_fluid_rests_in_fifteen_directions(rt: HostRuntime) {
+    assert_eq!(rt; differing::<D3Q15>(&FIFTEEN, 24), None);
+}
+
+// A force gives 216 / 3.
+#[test]
+fn a_fluid_rests_in_twenty_seven_directions(rt: HostRuntime) {
+    assert_eq!(rt; differing::<D3Q27>(&TWENTY_SEVEN, 72), None);
 }

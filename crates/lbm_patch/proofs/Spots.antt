@@ -1,9 +1,9 @@
 -- What happens to the places of a patch: one is taken out and put back, all are shared out between two owners or come together,
 -- and a row of slots gives them and gets them. `b` is the block, and o the byte of it where the places begin. Assumes `Logic`.
-use mathlib.Core.Path.{◌≡◌, refl, sym}
+use mathlib.Core.Path.{◌≡◌, refl, sym, ap, subst, ◌∙◌}
 use mathlib.Core.Bool.{Bool, true, false, not, ◌&&◌, ◌||◌}
 use Prim.Native.Nat.{ℕ, zero, suc, ◌+◌, ◌*◌, ◌<◌}
-use native.Mathlib.Nat.{not-suc-le-zero, le_of_suc-le-suc}
+use native.Mathlib.Nat.{not-suc-le-zero, le_of_suc-le-suc, add-mul, add_assoc}
 use native.Mathlib.Omega.{arith}
 use mathlib.Core.List.{List, [], ◌∷◌}
 use lib.ListN.{length, get_or, set}
@@ -93,6 +93,24 @@ module _ (E : El) {M : Type 1} {𝓤 : Ura M} (𝓛 : Logic 𝓤) (b : ℕ) wher
     cell_in y v =
         qed 𝓛 (‵ (fat full_share (elτ E) b byte v) ∷ ‵ (E.row.own_val y (v ∷ [])) ∷ ‵ rest ∷ []) ∵ use2 𝓛 (‵ (one byte true y)) (el_in E 𝓛 b y byte v) $
         rewrite ! 0 (λ (k : ℕ). ‵ (one k true y)) (sym (place_is step o i)) refl $ by ! (refill i o y ms xs im ix held)
+
+  -- the same at a place n that lies k places behind place i, by the byte of place i
+  module _ (i k n o : ℕ) (on : n ≡ k + i) (ms : List Bool) (xs : List (el_x E)) (im : n < length ms) (ix : n < length xs) (held : get_or ms n false ≡ true) where
+    abbrev byte_on : ℕ
+    byte_on = k * step + (i * step + o)
+
+    lies_on : n * step + o ≡ byte_on
+    lies_on = ap (λ (m : ℕ). m * step + o) on ∙ ap (λ (m : ℕ). m + o) (add-mul k i step) ∙ add_assoc (k * step) (i * step) o
+
+    pub cell_out_on : (d : el_x E) → ent 𝓤 (sem 𝓛 (all o ms xs)) (ex 𝓤 (λ (w : Val). sep 𝓤 (sem 𝓛 (fat full_share (elτ E) b byte_on w)) (sem 𝓛 (all o (set ms n false) xs))))
+    cell_out_on d =
+        subst (λ (m : ℕ). ent 𝓤 (sem 𝓛 (all o ms xs)) (ex 𝓤 (λ (w : Val). sep 𝓤 (sem 𝓛 (fat full_share (elτ E) b m w)) (sem 𝓛 (all o (set ms n false) xs))))) lies_on
+        (cell_out n o ms xs im ix held d)
+
+    pub cell_in_on : (y : el_x E) (v : Val) → ent 𝓤 (sep 𝓤 (sem 𝓛 (fat full_share (elτ E) b byte_on v)) (sep 𝓤 (sem 𝓛 (E.row.own_val y (v ∷ []))) (sem 𝓛 (all o (set ms n false) xs)))) (sem 𝓛 (all o ms (set xs n y)))
+    cell_in_on y v =
+        subst (λ (m : ℕ). ent 𝓤 (sep 𝓤 (sem 𝓛 (fat full_share (elτ E) b m v)) (sep 𝓤 (sem 𝓛 (E.row.own_val y (v ∷ []))) (sem 𝓛 (all o (set ms n false) xs)))) (sem 𝓛 (all o ms (set xs n y)))) lies_on
+        (cell_in n o ms xs im ix held y v)
 
   -- to the first owner where g says so, and else to the second
   dealt_one : (o : ℕ) (x : el_x E) (m g : Bool) → GivesTwo (one o m x) (one o (m && g) x) (one o (m && not g) x)

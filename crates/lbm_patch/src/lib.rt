@@ -4,11 +4,12 @@
 //! without a word being moved, and its parts may be used in different threads. `lend` makes one of a whole slice.
 #![tactic(auto)]
 
-ghost use Rattle.std.specs.Prelude.{◌≡◌, ◌^◌, ◌<◌, false, Bool, List, length, IsTrue, slice_index_or, slice_set};
+ghost use Rattle.std.specs.Prelude.{◌≡◌, ◌^◌, ◌<◌, ◌+◌, ℕ, false, Bool, List, [], ◌∷◌, length, IsTrue, slice_index_or, slice_set};
 ghost use Rattle.core.specs.Mem.Slots.{slots_ptr, slots_len, slots_items, slots_filled, IsFull};
 ghost use Rattle.core.specs.Mem.Slots.Ownership.{lent, Filled};
 ghost use Rattle.lbm_patch.specs.Ownership.{holds};
 ghost use Rattle.lbm_patch.specs.Masks.{both, without, either, picked, mask};
+ghost use Rattle.lbm_patch.specs.Written.{written};
 
 use core::slots::Slots;
 use std::marker::{Model, Send};
@@ -75,6 +76,23 @@ impl<T> Patch<T> {
         ensures places { (self.new.ptr ≡ self.old.ptr) × (self.new.len ≡ self.old.len) }
     {
         unsafe { self.ptr.add(i).write(x) }
+    }
+
+    /// Writes over the four places from `i` on, which must be of the patch, by one load of its pointer. What was there is not
+    /// dropped.
+    pub fn put_four(&mut self, i: usize, a: T, b: T, c: T, d: T)
+        requires { (j : ℕ) → j < 4 → (i + j < self.old.len) × IsTrue (slice_index_or self.old.mine (i + j) false) }
+        ensures items { self.new.items ≡ written self.old.items i (a ∷ b ∷ c ∷ d ∷ []) }
+        ensures mine { self.new.mine ≡ self.old.mine }
+        ensures places { (self.new.ptr ≡ self.old.ptr) × (self.new.len ≡ self.old.len) }
+    {
+        unsafe {
+            let to = self.ptr.add(i);
+            to.write(a);
+            to.add(1).write(b);
+            to.add(2).write(c);
+            to.add(3).write(d);
+        }
     }
 
     /// The places of some ranges, and the others: the ranges from `first + lo` up to, not including, `first + hi`, for

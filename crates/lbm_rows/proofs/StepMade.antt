@@ -9,9 +9,8 @@ use Rattle.std.proofs.lemmas.Option.{slice_get-get_or, slice_get_within, get_or_
 use Rattle.lbm_space.specs.Torus.{cells, rows}
 use Rattle.lbm_walk.proofs.Places.{row_known}
 use Rattle.lbm_board.specs.declared.record.Entry.{Entry}
-use Rattle.lbm_board.specs.declared.record.Record.{Record}
 use Rattle.lbm_board.specs.Lists.{Each}
-use Rattle.lbm_board.specs.Entries.{greatest, record_of, Holds}
+use Rattle.lbm_board.specs.Entries.{greatest, Holds}
 use Rattle.lbm_board.specs.Models.{BoardModel, TurnModel, IsTurnOf, log_of, fresh_turn}
 use Rattle.lbm_board.specs.BoardRecord.{IsClosed}
 use Rattle.lbm_model.specs.Case.{FlowCase, IsCase, target}
@@ -21,9 +20,9 @@ use Rattle.lbm_sweep.specs.Steps.{IsStepTo}
 use Rattle.lbm_sweep.proofs.Steps.{swept_is_step}
 use Rattle.lbm_rows.specs.Division.{AreFew, most_tiles}
 use Rattle.lbm_rows.specs.Kept.{AreKept, population_kept, state_kept}
-use Rattle.lbm_rows.specs.Lending.{TileModel, height, lent_row, lent_number, IsLent, IsTile, IsReady, InTile, IsSameShape, taken}
-use Rattle.lbm_rows.specs.Serving.{AllFinishWell, CanServe, HasWorkedOff, IsDone, IsWorkedOff, IsBad}
-use Rattle.lbm_rows.specs.Tiles.{AreLent, AreTiles, ArePieces, IsBack, IsCut, IsTileAt}
+use Rattle.lbm_rows.specs.Lending.{TileModel, height, lent_row, lent_number, IsLent, IsTile, IsReady, InTile}
+use Rattle.lbm_rows.specs.Serving.{AllFinishWell, CanServe, HasWorkedOff, IsWorkedOff}
+use Rattle.lbm_rows.specs.Tiles.{AreLent, AreTiles, ArePieces, IsBack, IsCut}
 use Rattle.lbm_rows.proofs.LentRows.{lent_known}
 use Rattle.lbm_rows.proofs.KeptSteps.{taken_kept}
 use Rattle.lbm_rows.proofs.TileCells.{few_of_tile}

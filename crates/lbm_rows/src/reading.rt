@@ -1,6 +1,6 @@
 //! A state that is read from kept rows, row by row.
 
-ghost use Rattle.std.specs.Prelude.{◌≡◌, ◌+◌, ◌*◌, ◌<◌, ◌≤◌, ℕ, IfOk, OnOk, slice_index, take};
+ghost use Rattle.std.specs.Prelude.{◌≡◌, ◌+◌, ◌*◌, ◌<◌, ◌≤◌, ℕ, IfOk, OnOk, length, pos, slice_index, slice_index_or, take};
 ghost use Rattle.lbm_space.specs.Torus.{rows as row_count};
 ghost use Rattle.lbm_model.specs.Case.{IsCase};
 ghost use Rattle.lbm_model.specs.Layout.{array_of, aa_layout};
@@ -157,4 +157,28 @@ fn read_cell<V: VelocitySet>(
         pops.push(row.population::<V>(kept, x, i) as i32)?;
     }
     Ok(())
+}
+
+/// Population `dir` of each cell of a row, of the state that stands in kept rows at time `t`.
+pub(crate) fn read_direction<V: VelocitySet>(
+    kept: &[KeptRow],
+    case: &Case,
+    t: u64,
+    row: u32,
+    dir: usize,
+    pops: &mut [i64],
+)
+    requires set { case.now.stencil ≡ V.stencil }
+    requires valid { IsCase case.now }
+    requires kept { AreKept case.now kept.now }
+    requires row { row < row_count case.now.torus }
+    requires direction { dir < V.stencil.directions }
+    requires room { length pops.old ≡ case.now.torus.nx }
+    ensures room { length pops.new ≡ case.now.torus.nx }
+    ensures value { (x : ℕ) → x < case.now.torus.nx → slice_index_or pops.new x (pos 0) ≡ population_kept case.now t kept.now (row * case.now.torus.nx + x) dir }
+{
+    let cells = CellRow::of::<V>(case, t, &Ways::at::<V>(t, 1), row);
+    for x in 0..cells.width {
+        pops[x as usize] = cells.population::<V>(kept, x, dir);
+    }
 }

@@ -13,7 +13,7 @@ use crate::kept_row::{load_from, store_in};
 use crate::tile_block::collide_block;
 use crate::ways::Ways;
 use lbm_space::VelocitySet;
-use lbm_walk::{Kernel, Rows, Walk};
+use lbm_walk::{Kernel, Rows, Walk, collide_apart};
 use std::marker::PhantomData;
 
 /// The cells of a row of a tile. They take and put by the ways; the first cell of the row is at place 1.
@@ -105,7 +105,7 @@ impl<V: VelocitySet> Walk<V> for TileRow<'_, '_, V> {
                 kernel, cell, self.kept, self.ways, self.row, self.width, self.at,
             );
         }
-        collide_end(kernel, cell, self)
+        collide_apart(kernel, cell, self)
     }
 
     ghost there_is = { λ w i j. refl };
@@ -127,23 +127,4 @@ impl<V: VelocitySet> Walk<V> for TileRow<'_, '_, V> {
     ghost same_as_self = { λ a. (refl, refl, refl, refl, alike_self V.stencil a.ways.now a.row a.kept.now) };
 
     ghost same_on = { λ a b c x y. (y.0 ∙ x.0, y.1 ∙ x.1, y.2 ∙ x.2, y.3 ∙ x.3, alike_on V.stencil a.ways.now b.ways.now a.row b.row a.kept.now b.kept.now c.kept.now x.1 x.2 x.4 y.4) };
-}
-
-// What a kernel makes of the cells at the end of a row, apart from the others, so that these stay short.
-#[cold]
-#[inline(never)]
-fn collide_end<V: VelocitySet, K: Kernel<V>, R: Rows<V>>(
-    kernel: &K,
-    cell: u32,
-    rows: &mut R,
-) -> Option<u32>
-    requires known { cell + R.count rows.old ≤ K.cells kernel.now }
-    requires small { (i j : ℕ) → i < V.stencil.directions → j < R.count rows.old → K.small kernel.now (cell + j) (R.there rows.old i j) }
-    ensures first { (f : ℕ → ℕ → ℤ) → AreTaken V.stencil.directions (R.count rows.old) f (R.there rows.old) → IsFirst (λ j. K.sound kernel.now (cell + j) (f j)) 0 (R.count rows.old) result }
-    ensures post { (f : ℕ → ℕ → ℤ) → AreTaken V.stencil.directions (R.count rows.old) f (R.there rows.old) → result ≡ None → AreTaken V.stencil.directions (R.count rows.old) (λ j. K.post kernel.now (cell + j) (f j)) (R.sent rows.new) }
-    ensures stopped { (k : ℕ) → result ≡ Some k → rows.new ≡ rows.old }
-    ensures count { R.count rows.new ≡ R.count rows.old }
-    ensures kept { R.kept rows.old rows.new }
-{
-    kernel.collide(cell, rows)
 }

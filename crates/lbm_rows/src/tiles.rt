@@ -9,7 +9,7 @@ ghost use Rattle.lbm_rows.specs.Tiles.{standing_in, IsDivision, StandInRow};
 
 use crate::dealing::Division;
 use crate::kept_row::row_number;
-use crate::reading::read_state;
+use crate::reading::{read_direction, read_state};
 use crate::standing::{least_out_of_limits, make_rows, population_at};
 use crate::step::advance;
 use crate::{KeptRow, TileSteps};
@@ -139,6 +139,17 @@ impl<G: Gate, V: VelocitySet + Sync> Pattern<G> for Tiles<V> {
     type Work = NoPass;
 
     type Turns = TileSteps<V>;
+
+    fn read_row(&self, row: u32, dir: u32, pops: &mut [i64]) {
+        read_direction::<V>(
+            self.kept.as_slice(),
+            &self.case,
+            self.time,
+            row,
+            dir as usize,
+            pops,
+        );
+    }
 
     fn step_by<C: Forks<NoPass>, S: Serves<TileSteps<V>>>(
         &mut self,

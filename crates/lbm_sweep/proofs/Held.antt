@@ -1,5 +1,5 @@
 -- Rows of cells that stand in the ranges of a loan.
-use Rattle.std.proofs.Common.{◌≡◌, ◌≢◌, ◌⊎◌, ℕ, ◌+◌, ◌-◌, ◌<◌, ◌≤◌, ℤ, pos, List, length, take, slice_index, sym, subst, ◌∙◌, arith}
+use Rattle.std.proofs.Common.{◌≡◌, ◌≢◌, ℕ, ◌+◌, ◌-◌, ◌<◌, ◌≤◌, ℤ, pos, List, length, take, slice_index, sym, subst, ◌∙◌, arith}
 use Rattle.std.specs.Prelude.{slice_index_or}
 use Rattle.lbm_space.specs.Stencil.{Stencil, IsVelocitySet, opposite}
 use Rattle.lbm_space.specs.Torus.{Torus, IsSpace}
@@ -8,7 +8,7 @@ use Rattle.lbm_arrays.specs.Lent.{Lent, IsRun}
 use Rattle.lbm_arrays.specs.Ranges.{with_run}
 use Rattle.lbm_cell.specs.Rows.{entry}
 use Rattle.lbm_sweep.specs.Blocks.{IsSized, IsTable}
-use Rattle.lbm_sweep.specs.Held.{width, BeginAt, IsAlike, IsExchange, IsRowWithin, IsSameBut, IsWithin}
+use Rattle.lbm_sweep.specs.Held.{width, BeginAt, IsExchange, IsSameBut, IsWithin}
 use Rattle.lbm_sweep.specs.Slabs.{IsSlab}
 use Rattle.lbm_sweep.proofs.Places.{slab_wide}
 use Rattle.lbm_sweep.proofs.Written.{run_sized, run_here, run_other, run_off}
@@ -60,44 +60,15 @@ module _ (q at n : ℕ) (lent : Lent) (is : IsWithin q lent.ranges at n) where
   stored_in arrays slots table begins dir known lanes new long rows place ranges =
       let k : ℕ = slice_index arrays dir in put_in k lanes new (table.known dir known) long rows place (ranges k (run_in arrays slots table begins dir known))
 
--- cells' places are places as before where nothing has changed but at some places
-pub within_but : (q at n from to : ℕ) (old new : Lent) → IsSameBut from to old new → IsWithin q old.ranges at n → IsWithin q new.ranges at n
-within_but q at n from to old new but is = record {
+-- cells' places are places as before where nothing has changed but there
+pub within_but : (q at n : ℕ) (old new : Lent) → IsSameBut at (at + n) old new → IsWithin q old.ranges at n → IsWithin q new.ranges at n
+within_but q at n old new but is = record {
   some = is.some;
   few = is.few;
   directions = is.directions;
   sized = rw but.wide (but.sized q (width old.ranges) is.sized);
   inner = is.inner;
   fits = rw but.wide is.fits;
-}
-
--- a row's places are so too
-pub row_but : (q at n from to : ℕ) (old new : Lent) → IsSameBut from to old new → IsRowWithin q old.ranges at n → IsRowWithin q new.ranges at n
-row_but q at n from to old new but is = record {
-  some = is.some;
-  directions = is.directions;
-  sized = rw but.wide (but.sized q (width old.ranges) is.sized);
-  inner = is.inner;
-  fits = rw but.wide is.fits;
-}
-
--- a range that has a row has a first cell
-pub within_row : (q at n : ℕ) (lent : Lent) → IsRowWithin q lent.ranges at n → IsWithin q lent.ranges 1 1
-within_row q at n lent is =
-    let some = is.some in let inner = is.inner in let fits = is.fits in
-    record { some = omega arith; few = omega arith; directions = is.directions; sized = is.sized; inner = omega arith; fits = omega (arith, some, inner, fits) }
-
--- what a walk over a row leaves
-pub row_walked : (q at n : ℕ) (old new : Lent) → IsRowWithin q old.ranges at n → IsAlike old new → width new.ranges ≡ width old.ranges → IsSized q (width new.ranges) new.ranges
-    → ((k p : ℕ) → (p < at) ⊎ (at + n ≤ p) → entry new.ranges k p ≡ entry old.ranges k p) → IsSameBut at (at + n) old new
-row_walked q at n old new is alike wide sized others = record {
-  rows = alike.rows;
-  place = alike.place;
-  wide = wide;
-  sized = λ q' len s.
-      let many = s.count in let count = is.sized.count in let same : q' ≡ q = omega arith in
-      record { count = sized.count ∙ sym same; lengths = λ i below. let there : i < q = omega arith in sized.lengths i there ∙ wide ∙ sym (is.sized.lengths i there) ∙ s.lengths i below };
-  others = others;
 }
 
 -- what holds of a loan that a holder had holds of the loan that comes back

@@ -20,14 +20,6 @@ pub record IsWithin (q : ℕ) (ranges : List (List ℤ)) (at n : ℕ) : Type 0 w
   pub inner : 0 < at
   pub fits : at + n < width ranges
 
--- a row of n places within such ranges
-pub record IsRowWithin (q : ℕ) (ranges : List (List ℤ)) (at n : ℕ) : Type 0 where
-  pub some : 0 < n
-  pub directions : q ≤ most_directions
-  pub sized : IsSized q (width ranges) ranges
-  pub inner : 0 < at
-  pub fits : at + n < width ranges
-
 -- each direction is taken from an array of its own, and put where its opposite is taken from
 pub record IsExchange (v : Stencil) (reads writes : List ℕ) : Type 0 where
   pub taken : IsTable v.directions reads

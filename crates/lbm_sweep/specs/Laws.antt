@@ -7,7 +7,7 @@ use Rattle.lbm_sweep.specs.Held.{IsAlike, IsExchange, IsSameBut}
 pub same_but : (from to : ℕ) (a : Lent) → IsSameBut from to a a
 same_but from to a = record { rows = refl; place = refl; wide = refl; sized = λ q len s. s; others = λ k p off. refl }
 
-pub same_but_more : (from to from' to' : ℕ) (a b : Lent) → from' ≤ from → to ≤ to' → IsSameBut from to a b → IsSameBut from' to' a b
+same_but_more : (from to from' to' : ℕ) (a b : Lent) → from' ≤ from → to ≤ to' → IsSameBut from to a b → IsSameBut from' to' a b
 same_but_more from to from' to' a b low high is = record {
   rows = is.rows;
   place = is.place;
@@ -16,7 +16,7 @@ same_but_more from to from' to' a b low high is = record {
   others = λ k p off. is.others k p (elim off [ inl x ↦ inl (omega arith) | inr x ↦ inr (omega arith) ]);
 }
 
-pub same_but_on : (from to : ℕ) (a b c : Lent) → IsSameBut from to a b → IsSameBut from to b c → IsSameBut from to a c
+same_but_on : (from to : ℕ) (a b c : Lent) → IsSameBut from to a b → IsSameBut from to b c → IsSameBut from to a c
 same_but_on from to a b c first second = record {
   rows = second.rows ∙ first.rows;
   place = second.place ∙ first.place;

@@ -82,11 +82,6 @@ impl<V: VelocitySet> Taking<V> for OwnPlaces<'_> {
         loan.load_block(self.from[dir], at)
     }
 
-    #[inline(always)]
-    fn bring(&self, _loan: &mut Loan<'_>, _at: u32, _width: u32) -> bool {
-        false
-    }
-
     ghost still_fits = { λ w writes a b from to but fit. (fit.0, λ i known. fit.1 i known ∙ ap (λ (p : Place). first_slot p (slice_index w.reads.now i)) (sym but.place)) };
 
     ghost still_pending = { λ w a b at n i p but past. but.others (slice_index w.reads.now i) p (inr past) };

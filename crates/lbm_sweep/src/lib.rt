@@ -5,7 +5,6 @@
 //! populations are taken, into which arrays they are put, and how the ranges are moved.
 #![tactic(auto)]
 
-mod brought;
 mod cell_row;
 mod in_place;
 mod lanes;

@@ -1,23 +1,22 @@
 //! The rows of a slab's cells, which stand in the ranges of its loan.
 
-ghost use Rattle.std.specs.Prelude.{◌≡◌, ◌+◌, ◌*◌, ◌<◌, ◌≤◌, ◌^◌, ℕ, ℤ, List, None, Some, true, slice_index, refl};
+ghost use Rattle.std.specs.Prelude.{◌≡◌, ◌+◌, ◌*◌, ◌<◌, ◌≤◌, ℕ, ℤ, List, None, Some, true, slice_index, refl};
 ghost use Rattle.std.proofs.Common.{◌∙◌, ap};
 ghost use Rattle.lbm_space.specs.Limits.{most_directions};
 ghost use Rattle.lbm_space.specs.Torus.{IsSpace, cells};
 ghost use Rattle.lbm_cell.specs.Rows.{entry};
 ghost use Rattle.lbm_walk.specs.First.{IsFirst};
 ghost use Rattle.lbm_walk.specs.Places.{local, InRows};
-ghost use Rattle.lbm_walk.specs.Walked.{AreTaken, IsWalked};
+ghost use Rattle.lbm_walk.specs.Walked.{AreTaken};
 ghost use Rattle.lbm_sweep.specs.Blocks.{IsTable};
-ghost use Rattle.lbm_sweep.specs.Held.{width, BeginAt, IsAlike, IsRowWithin, IsSameBut, IsWithin};
+ghost use Rattle.lbm_sweep.specs.Held.{width, BeginAt, IsAlike, IsSameBut, IsWithin};
 ghost use Rattle.lbm_sweep.specs.Laws.{alike_but, alike_on, alike_self, same_but, same_run_on};
 ghost use Rattle.lbm_sweep.specs.Slabs.{InColumns, IsSlab, Ranges};
 
-use crate::brought::Brought;
 use crate::{SlabCall, Slots, Taking, first_slots};
 use lbm_arrays::Loan;
 use lbm_space::VelocitySet;
-use lbm_walk::{Kernel, Rows, SlabWalk, Walk, collide_row, collide_slab};
+use lbm_walk::{Kernel, Rows, Walk, collide_apart, collide_slab};
 use std::marker::PhantomData;
 
 /// The cells of all rows of a slab collide: each takes its populations as told and passes the rule, and what it sends in
@@ -171,71 +170,6 @@ impl<V: VelocitySet, T: Taking<V>> Walk<V> for SlabRows<'_, '_, '_, '_, '_, V, T
     ghost same_on = { λ a b c x y. (y.0 ∙ x.0, y.1 ∙ x.1, y.2 ∙ x.2, alike_on a.loan.now b.loan.now c.loan.now x.3 y.3) };
 }
 
-impl<V: VelocitySet, T: Taking<V>> SlabWalk<V> for SlabRows<'_, '_, '_, '_, '_, V, T> {
-    #[inline(always)]
-    fn collide_row_by<K: Kernel<V>>(
-        &mut self,
-        kernel: &K,
-        cell: u32,
-        at: u32,
-        width: u32,
-    ) -> Option<u32> {
-        if self.taking.bring(self.loan, at, width) {
-            let brought = Brought {
-                writes: self.writes,
-                to: self.to,
-            };
-            return collide_row_taking::<V, K, Brought<'_, '_>>(
-                kernel,
-                &brought,
-                self.loan,
-                self.writes,
-                self.to,
-                cell,
-                at,
-                width,
-            );
-        }
-        collide_row(kernel, self, cell, at, width)
-    }
-}
-
-// The row of cells at the places from `at` on collide, as `collide_taking` tells it of all rows of a slab. It stands apart, so that
-// what is inlined of the kernel where it is called stays short.
-#[inline(never)]
-fn collide_row_taking<V: VelocitySet, K: Kernel<V>, T: Taking<V>>(
-    kernel: &K,
-    taking: &T,
-    loan: &mut Loan<'_>,
-    writes: &[usize],
-    to: &Slots,
-    cell: u32,
-    at: u32,
-    width: u32,
-) -> Option<u32>
-    requires within { IsRowWithin V.stencil.directions loan.old.ranges at width }
-    requires table { IsTable V.stencil.directions writes.now }
-    requires begins { BeginAt V.stencil.directions loan.old.place writes.now to.now }
-    requires fitting { T.fits taking.now writes.now loan.old }
-    requires known { cell + width ≤ K.cells kernel.now }
-    requires cells_fit { cell + width < 2 ^ 32 }
-    requires places_fit { at + width < 2 ^ 32 }
-    requires small { (i x : ℕ) → i < V.stencil.directions → x < width → K.small kernel.now (cell + x) (T.taken taking.now loan.old i (at + x)) }
-    ensures done { (f : ℕ → ℕ → ℤ) → AreTaken V.stencil.directions width (λ x. f (cell + x)) (λ i x. T.taken taking.now loan.old i (at + x)) → (place : ℕ → ℕ) → ((x : ℕ) → x < width → place (cell + x) ≡ at + x) → IsWalked (K.sound kernel.now) (K.post kernel.now) V.stencil.directions place cell (cell + width) f (λ i p. entry loan.new.ranges (slice_index writes.now i) p) result }
-    ensures but { IsSameBut at (at + width) loan.old loan.new }
-{
-    let mut walk = SlabRows::<V, T> {
-        set: PhantomData,
-        taking,
-        loan,
-        writes,
-        to,
-        at: 1,
-        n: 1,
-    };
-    collide_row::<V, K, SlabRows<'_, '_, '_, '_, '_, V, T>>(kernel, &mut walk, cell, at, width)
-}
-
 // Eight cells that are clear: what they take and put has no test.
 #[derive(Drop)]
 struct ClearRows<'t, 'l, 'b, 'w, 'o, V: VelocitySet, T: Taking<V>> {
@@ -318,23 +252,4 @@ fn collide_clear<V: VelocitySet, K: Kernel<V>, T: Taking<V>>(
         at,
     };
     kernel.collide(cell, &mut rows)
-}
-
-// What a kernel makes of rows of which few are met, apart from the others, so that these stay short.
-#[cold]
-#[inline(never)]
-fn collide_apart<V: VelocitySet, K: Kernel<V>, R: Rows<V>>(
-    kernel: &K,
-    cell: u32,
-    rows: &mut R,
-) -> Option<u32>
-    requires known { cell + R.count rows.old ≤ K.cells kernel.now }
-    requires small { (i j : ℕ) → i < V.stencil.directions → j < R.count rows.old → K.small kernel.now (cell + j) (R.there rows.old i j) }
-    ensures first { (f : ℕ → ℕ → ℤ) → AreTaken V.stencil.directions (R.count rows.old) f (R.there rows.old) → IsFirst (λ j. K.sound kernel.now (cell + j) (f j)) 0 (R.count rows.old) result }
-    ensures post { (f : ℕ → ℕ → ℤ) → AreTaken V.stencil.directions (R.count rows.old) f (R.there rows.old) → result ≡ None → AreTaken V.stencil.directions (R.count rows.old) (λ j. K.post kernel.now (cell + j) (f j)) (R.sent rows.new) }
-    ensures stopped { (k : ℕ) → result ≡ Some k → rows.new ≡ rows.old }
-    ensures count { R.count rows.new ≡ R.count rows.old }
-    ensures kept { R.kept rows.old rows.new }
-{
-    kernel.collide(cell, rows)
 }

@@ -1,11 +1,11 @@
 //! How cells take their populations.
 
-ghost use Rattle.std.specs.Prelude.{◌≡◌, ◌≢◌, ◌+◌, ◌<◌, ◌≤◌, Bool, false, true, ℕ, ℤ, List, pos, slice_index, slice_index_or};
+ghost use Rattle.std.specs.Prelude.{◌≡◌, ◌≢◌, ◌+◌, ◌<◌, ◌≤◌, Bool, true, ℕ, ℤ, List, pos, slice_index, slice_index_or};
 ghost use Rattle.lbm_space.specs.Stencil.{opposite};
 ghost use Rattle.lbm_arrays.specs.Lent.{Lent};
 ghost use Rattle.lbm_cell.specs.Rows.{entry};
 ghost use Rattle.lbm_walk.specs.Walked.{IsPending};
-ghost use Rattle.lbm_sweep.specs.Held.{IsRowWithin, IsSameBut, IsWithin};
+ghost use Rattle.lbm_sweep.specs.Held.{IsSameBut, IsWithin};
 
 use lbm_arrays::Loan;
 use lbm_space::VelocitySet;
@@ -48,15 +48,6 @@ pub trait Taking<V: VelocitySet>: Drop {
         requires fitting { (writes : List ℕ) × fits self.now writes loan.now }
         requires clear { clear self.now at ≡ true }
         ensures { (j : ℕ) → j < 8 → slice_index_or result j (pos 0) ≡ taken self.now loan.now dir (at + j) };
-
-    /// Brings what the cells of a row take, `width` of them from place `at` on, to where they put: what a cell takes from
-    /// a direction to its own place in the array that gets what it sends there. The answer is whether that was done.
-    fn bring(&self, loan: &mut Loan<'_>, at: u32, width: u32) -> bool
-        requires within { IsRowWithin V.stencil.directions loan.old.ranges at width }
-        requires fitting { (writes : List ℕ) × fits self.now writes loan.old }
-        ensures brought { (writes : List ℕ) → fits self.now writes loan.old → result ≡ true → (i x : ℕ) → i < V.stencil.directions → x < width → entry loan.new.ranges (slice_index writes i) (at + x) ≡ taken self.now loan.old i (at + x) }
-        ensures left { result ≡ false → loan.new ≡ loan.old }
-        ensures but { IsSameBut at (at + width) loan.old loan.new };
 
     ghost still_fits: { (s : Self) (writes : List ℕ) (a b : Lent) (from to : ℕ) → IsSameBut from to a b → fits s writes a → fits s writes b };
 

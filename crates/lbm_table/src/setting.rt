@@ -8,12 +8,16 @@ use lbm_flow::run_words;
 use lbm_model::NoGate;
 use lbm_store::{MapStore, VecSink};
 use linked_list_allocator::LocalHeap;
-use std::alloc::{Allocator, Global};
+use std::alloc::Global;
 use std::marker::Sync;
 use std::thread::Threads;
 
 // The file that holds what the last answer told.
 const TOLD: &str = "told";
+
+// The size of the lattice's heap, where a trial sets none. One type of heap is all that trials need: for each type the compiler builds
+// the run of every pattern in every velocity set anew.
+const HEAP: usize = 67_108_864;
 
 /// The files of a trial, and what is to fail.
 #[derive(Drop)]
@@ -24,8 +28,8 @@ pub struct Setting {
     file: String,
     // The write of each answer's sink that is to fail.
     failing: Option<u64>,
-    // The size of the lattice's heap, where it is small.
-    heap: Option<usize>,
+    // The size of the lattice's heap.
+    heap: usize,
     /// The status of the last answer.
     pub status: Option<u8>,
 }
@@ -38,7 +42,7 @@ impl Setting {
             store: MapStore::new(alloc, Vec::new(alloc)),
             file: String::new(alloc),
             failing: None,
-            heap: None,
+            heap: HEAP,
             status: None,
         }
     }
@@ -58,7 +62,7 @@ impl Setting {
 
     /// From here on the lattice's heap has this size.
     pub fn limit_heap(&mut self, size: usize) {
-        self.heap = Some(size);
+        self.heap = size;
     }
 
     /// Makes a file hold these bytes, and lines are added to it from here on.
@@ -89,13 +93,7 @@ impl Setting {
             Some(words) => parts(self.alloc, words, " ")?,
             None => Vec::new(self.alloc),
         };
-        let status = match self.heap {
-            None => self.answer(rt, self.alloc, &words)?,
-            Some(size) => {
-                let heap = LocalHeap::new(self.alloc, size)?;
-                self.answer(rt, &heap, &words)?
-            }
-        };
+        let status = self.answer(rt, &words)?;
         self.status = Some(status);
         let (wanted, line) = wanted.split_once(' ').unwrap_or((wanted, ""));
         let fits = line.is_empty() || is_told(self.told(), line);
@@ -107,20 +105,16 @@ impl Setting {
         self.store.bytes(TOLD).unwrap_or(b"")
     }
 
-    // The status of the solver's answer, with the lattice on this heap.
-    fn answer<A: Allocator + Copy, R: Threads + Sync>(
-        &mut self,
-        rt: &R,
-        heap: A,
-        words: &[String],
-    ) -> Result<u8, Stop> {
+    // The status of the solver's answer.
+    fn answer<R: Threads + Sync>(&mut self, rt: &R, words: &[String]) -> Result<u8, Stop> {
         let alloc = self.alloc;
+        let heap = LocalHeap::new(alloc, self.heap)?;
         let mut failing = Vec::new(alloc);
         if let Some(call) = self.failing {
             failing.push(call)?;
         }
         let mut sink = VecSink::new(alloc, failing);
-        let end = run_words(rt, alloc, heap, words, &mut self.store, &mut sink, &NoGate);
+        let end = run_words(rt, alloc, &heap, words, &mut self.store, &mut sink, &NoGate);
         self.store.put(TOLD, sink.bytes())?;
         Ok(end.status())
     }

@@ -1,24 +1,28 @@
 -- A cell that holds nothing sends nothing.
-use Rattle.std.proofs.Common.{◌≡◌, ℕ, zero, suc, ◌+◌, ◌-◌, ◌<◌, ℤ, pos, negsuc, ◌+ℤ◌, ◌-ℤ◌, ◌*ℤ◌, neg_ℤ, unsigned_abs, List, Bool, true, false, refl, sym, ap, ◌∙◌, arith}
+use Rattle.std.proofs.Common.{◌≡◌, ℕ, zero, suc, ◌+◌, ◌-◌, ◌<◌, ◌≤◌, ℤ, pos, negsuc, ◌+ℤ◌, ◌-ℤ◌, ◌*ℤ◌, neg_ℤ, unsigned_abs, List, Bool, true, false, refl, sym, ap, subst, ◌∙◌, arith}
 use Rattle.std.specs.Prelude.{◌==◌, ◌||◌, nat_eq, if◌then◌else◌}
 use Rattle.std.proofs.lemmas.Int.{ints}
 use Rattle.std.proofs.Math.Nat.{zero-div}
 use Rattle.lbm_space.specs.Sum.{sum_below}
 use Rattle.lbm_space.specs.Stencil.{Stencil, opposite, weight, velocity, dot}
-use Rattle.lbm_space.specs.Torus.{IsSpace, cells}
+use Rattle.lbm_space.specs.Torus.{Torus, IsSpace, cells}
 use Rattle.lbm_cell.specs.Moments.{density, momentum}
 use Rattle.lbm_cell.specs.Collision.{RelaxationRates, floor_div, reflection, with_rest}
 use Rattle.lbm_cell.proofs.Conservation.{with_rest-same}
 use Rattle.lbm_cell.proofs.Sizes.{product_size}
 use Rattle.lbm_model.specs.State.{FlowState, population}
 use Rattle.lbm_model.specs.Case.{FlowCase, is_solid}
+use Rattle.lbm_model.specs.Standing.{Standing}
 use Rattle.lbm_tracer.specs.Sets.{d2q5, d3q7, inverse_sound_squared}
 use Rattle.lbm_tracer.specs.Collision.{relaxation_of, tracer_collision, in_tracer_limits}
 use Rattle.lbm_tracer.specs.Tracing.{set_in, tracer_post, is_tracer_sound}
 use Rattle.lbm_tracer.specs.Carried.{amount_in}
+use Rattle.lbm_tracer.specs.Rows.{cell_at, IsTracerRow, HoldsNothing}
 use Rattle.lbm_tracer.specs.Sending.{HaveSent}
+use Rattle.lbm_tracer.specs.declared.slots.TracerRow.{TracerRow}
 use Rattle.lbm_tracer.proofs.Sets.{set_facts}
 use Rattle.lbm_tracer.proofs.Agreement.{collision-same, limits-same}
+use Rattle.lbm_tracer.proofs.Rows.{cell_known}
 use Rattle.lbm_tracer.proofs.Sending.{OneSends, have-more}
 
 zero_times : (x : ℤ) → pos 0 *ℤ x ≡ pos 0
@@ -91,3 +95,19 @@ have-quiet case r s time old now x a space here taken none before =
       others = λ y k there known ne i. amount_in case.torus time now y k;
     } in
     have-more case r s time old now now x a a a space here one (quiet_sound case r s x a none) before
+
+-- nor does a row that holds nothing
+module _ (flow : Standing) (r : RelaxationRates) (row : TracerRow) (now old : List ℤ) (is : IsTracerRow row) (space : flow.case.torus ≡ row.space) (none : HoldsNothing row now) where
+  quiet_cells : (n : ℕ) → n ≤ row.width → HaveSent flow.case r flow.state row.time old now (cell_at row 0) → HaveSent flow.case r flow.state row.time old now (cell_at row n)
+  quiet_cells zero few before = before
+  quiet_cells (suc n) few before =
+      let back : row.space ≡ flow.case.torus = sym space in
+      let here : cell_at row n < cells flow.case.torus = subst (λ (u : Torus). cell_at row n < cells u) back (cell_known row is n (omega arith)) in
+      let all : (k : ℕ) → k < (set_in flow.case.torus).directions → amount_in flow.case.torus row.time now (cell_at row n) k ≡ pos 0 =
+      subst (λ (u : Torus). (k : ℕ) → k < (set_in u).directions → amount_in u row.time now (cell_at row n) k ≡ pos 0) back (λ k known. none n k (omega arith) known) in
+      subst (HaveSent flow.case r flow.state row.time old now) (omega arith)
+      (have-quiet flow.case r flow.state row.time old now (cell_at row n) (amount_in flow.case.torus row.time now (cell_at row n)) (subst IsSpace back is.space) here
+      (λ k known i. amount_in flow.case.torus row.time now (cell_at row n) k) all (quiet_cells n (omega arith) before))
+
+  pub quiet_row : HaveSent flow.case r flow.state row.time old now (cell_at row 0) → HaveSent flow.case r flow.state row.time old now (cell_at row row.width)
+  quiet_row before = quiet_cells row.width (omega arith) before

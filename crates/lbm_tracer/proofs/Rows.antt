@@ -1,15 +1,17 @@
 -- The cells of a row, and where their amounts stand.
-use Rattle.std.proofs.Common.{◌≡◌, ℕ, ◌+◌, ◌*◌, ◌/◌, ◌%◌, ◌<◌, slice_index, sym, ap, subst, ◌∙◌, arith}
+use Rattle.std.proofs.Common.{◌≡◌, ℕ, ◌+◌, ◌*◌, ◌/◌, ◌%◌, ◌<◌, ◌≤◌, pos, length, slice_index, slice_index_or, refl, sym, ap, subst, ◌∙◌, arith}
 use Rattle.std.proofs.Math.Nat.{mod-add-div}
 use Rattle.std.proofs.lemmas.Nat.{div_below, mod_below}
 use Rattle.lbm_space.specs.Torus.{Torus, IsSpace, cells, rows, padded}
 use Rattle.lbm_model.specs.Layout.{place_of, aa_layout}
+use Rattle.lbm_arrays.specs.Arrays.{Arrays, IsRegion, slot_at}
+use Rattle.lbm_arrays.proofs.Slots.{up_to}
 use Rattle.lbm_tracer.specs.declared.slots.TracerRow.{TracerRow}
 use Rattle.lbm_tracer.specs.Tracing.{set_in}
-use Rattle.lbm_tracer.specs.Carried.{places_of}
+use Rattle.lbm_tracer.specs.Carried.{places_of, amount_in, IsTracerRegion}
 use Rattle.lbm_tracer.specs.Rows.{cell_at, IsTracerRow}
 use Rattle.lbm_tracer.proofs.RowPlaces.{in_row}
-use Rattle.lbm_tracer.proofs.Places.{layout_room}
+use Rattle.lbm_tracer.proofs.Places.{layout_room, slot_is}
 
 module _ (r : TracerRow) (is : IsTracerRow r) where
   -- a row's cells are cells of the box
@@ -29,6 +31,28 @@ module _ (r : TracerRow) (is : IsTracerRow r) where
 
   pub place_inside : (k p : ℕ) → k < (set_in r.space).directions → p < r.width → slice_index r.firsts k + p < 2 + padded r.space
   place_inside k p known below = let inside = (is.along k known).round.inside in let margin = (layout_room r.time).0 in omega (arith, inside, margin, below, is.wide)
+
+-- the amounts of a direction are those of a run of its array
+module _ (r : TracerRow) (is : IsTracerRow r) (region : Arrays) (laid : IsTracerRegion r.space region) (valid : IsRegion region) (k : ℕ) (known : k < (set_in r.space).directions) where
+  abbrev first : ℕ
+  first = slice_index r.arrays k * (2 + padded r.space) + slice_index r.firsts k
+
+  pub run_inside : first + r.width ≤ length region.slots
+  run_inside =
+      let size = 2 + padded r.space in let q = (set_in r.space).directions in let inside = (is.along k known).round.inside in
+      let ends : slice_index r.arrays k * size + size ≤ q * size = up_to (slice_index r.arrays k) q size (is.along k known).array_known in
+      let all : length region.slots ≡ q * size = valid.whole ∙ (λ j. laid.count j * (laid.margin j + padded (laid.space j))) in
+      omega (arith, ends, inside, (layout_room r.time).0, is.wide, all)
+
+  run_has : (x : ℕ) → x < r.width → amount_in r.space r.time region.slots (cell_at r x) k ≡ slice_index_or region.slots (first + (x + slice_index r.aheads k) % r.width) (pos 0)
+  run_has x below =
+      let p = (x + slice_index r.aheads k) % r.width in let at = slice_index r.firsts k + p in
+      let slot = slot_is r.space is.space region laid valid r.time (cell_at r x) k (slice_index r.arrays k) at (is.along k known).is_array (place_is r is x k p below known refl) in
+      let start : slot_at region.space region.margin (slice_index r.arrays k) at ≡ first + p = (λ j. slice_index r.arrays k * (laid.margin j + padded (laid.space j)) + at) ∙ omega arith in
+      ap (λ (s : ℕ). slice_index_or region.slots s (pos 0)) (sym slot ∙ start)
+
+  pub run_zero : ((y : ℕ) → y < r.width → slice_index_or region.slots (first + y) (pos 0) ≡ pos 0) → (x : ℕ) → x < r.width → amount_in r.space r.time region.slots (cell_at r x) k ≡ pos 0
+  run_zero zeros x below = run_has x below ∙ zeros ((x + slice_index r.aheads k) % r.width) (mod_below (x + slice_index r.aheads k) r.width (omega (arith, below)))
 
 -- the row of a cell, and its place there
 pub row_known : (t : Torus) (cell : ℕ) → IsSpace t → cell < cells t → cell / t.nx < rows t

@@ -9,6 +9,7 @@ use Rattle.lbm_cell.specs.Collision.{RelaxationRates, reflection}
 use Rattle.lbm_model.specs.State.{FlowState, population}
 use Rattle.lbm_model.specs.Case.{FlowCase}
 use Rattle.lbm_model.specs.Flow.{is_sound, out_of_limits}
+use Rattle.lbm_model.specs.Standing.{Standing}
 use Rattle.lbm_cell.proofs.Least.{least_failing-none, least_failing-all, least_failing-at}
 use Rattle.lbm_tracer.specs.Tracing.{set_in, tracer_source, tracer_post, tracer_next, is_tracer_sound, tracer_out_of_limits}
 use Rattle.lbm_tracer.specs.Carried.{amount_in, tracer_state_in, AreFew}
@@ -19,7 +20,7 @@ use Rattle.lbm_cell.specs.declared.populations.Moment.{Moment}
 use Rattle.lbm_tracer.specs.Collision.{IsMomentOf}
 use Rattle.lbm_tracer.specs.Rows.{cell_at, IsTracerRow}
 use Rattle.lbm_tracer.specs.declared.slots.TracerRow.{TracerRow}
-use Rattle.lbm_tracer.specs.Sending.{HaveSent, Goes, RowGoes, Makes}
+use Rattle.lbm_tracer.specs.Sending.{HaveSent, Goes, RowGoes, RowSends, Makes}
 use Rattle.lbm_tracer.specs.declared.step.Unsent.{Unsent}
 use Rattle.lbm_tracer.specs.declared.step.Unsent.TheVariants as ends
 use Rattle.lbm_tracer.proofs.Agreement.{post-same, sound-same}
@@ -135,16 +136,19 @@ module _ (case : FlowCase) (r : RelaxationRates) (s : FlowState) (time : ℕ) wh
       let x = goes.0 in let passes : is_sound case x (population s x) ≡ true = least_failing-none (cells case.torus) (λ y. is_sound case y (population s y)) sound x goes.1 in
       let h : true ≡ false = sym passes ∙ goes.2 in absurd cc
 
--- a row's part, by the number of the row
-pub row-goes : (case : FlowCase) (r : RelaxationRates) (row : TracerRow) (m : ℕ → Moment) (now new : List ℤ) (result : Result (Unit {0}) Unsent) (t : Torus) (time number : ℕ)
-    → IsTracerRow row → row.space ≡ t → row.time ≡ time → row.number ≡ number → RowGoes case r row m now new result
-    → (s : FlowState) (old : List ℤ) → ((x : ℕ) → x < t.nx → IsMomentOf case.stencil (population s (number * t.nx + x)) (m x))
-    → HaveSent case r s time old now (number * t.nx) → Goes case r s time old new ((number + 1) * t.nx) result
-row-goes case r row m now new result t time number is space time_is number_is goes s old moments before =
-    let wide : row.width ≡ t.nx = is.wide ∙ ap (λ (u : Torus). u.nx) space in
-    let cell : (x : ℕ) → cell_at row x ≡ number * t.nx + x = λ x j. number_is j * wide j + x in
-    let first : cell_at row 0 ≡ number * t.nx = cell 0 ∙ omega arith in
-    let last : cell_at row row.width ≡ (number + 1) * t.nx = (λ j. number_is j * wide j + wide j) ∙ omega arith in
-    subst (λ (w : ℕ × ℕ). Goes case r s w.0 old new w.1 result) (λ j. (time_is j, last j))
-    (goes s old (λ x below. subst (λ (y : ℕ). IsMomentOf case.stencil (population s y) (m x)) (sym (cell x)) (moments x (subst (λ (u : Torus). x < u.nx) space below)))
-    (subst (λ (w : ℕ × ℕ). HaveSent case r s w.0 old now w.1) (λ j. (sym time_is j, sym first j)) before))
+-- a row's part by its moments, which are those of the flow, and by the number of the row
+module _ (flow : Standing) (r : RelaxationRates) (row : TracerRow) (now new : List ℤ) (result : Result (Unit {0}) Unsent) (is : IsTracerRow row) where
+  pub row-sends : (m : ℕ → Moment) → flow.case.torus ≡ row.space → RowGoes flow.case r row m now new result
+      → ((x : ℕ) → x < flow.case.torus.nx → IsMomentOf flow.case.stencil (population flow.state (row.number * flow.case.torus.nx + x)) (m x)) → RowSends flow r row now new result
+  row-sends m space goes moments old before =
+      let wide : flow.case.torus.nx ≡ row.width = ap (λ (u : Torus). u.nx) space ∙ sym is.wide in
+      goes flow.state old (λ x below. subst (λ (w : ℕ). IsMomentOf flow.case.stencil (population flow.state (row.number * w + x)) (m x)) wide (moments x (subst (λ (u : Torus). x < u.nx) (sym space) below))) before
+
+  pub row-goes : (t : Torus) (time number : ℕ) → row.space ≡ t → row.time ≡ time → row.number ≡ number → RowSends flow r row now new result
+      → (old : List ℤ) → HaveSent flow.case r flow.state time old now (number * t.nx) → Goes flow.case r flow.state time old new ((number + 1) * t.nx) result
+  row-goes t time number space time_is number_is sends old before =
+      let wide : row.width ≡ t.nx = is.wide ∙ ap (λ (u : Torus). u.nx) space in
+      let first : cell_at row 0 ≡ number * t.nx = (λ j. number_is j * wide j + 0) ∙ omega arith in
+      let last : cell_at row row.width ≡ (number + 1) * t.nx = (λ j. number_is j * wide j + wide j) ∙ omega arith in
+      subst (λ (w : ℕ × ℕ). Goes flow.case r flow.state w.0 old new w.1 result) (λ j. (time_is j, last j))
+      (sends old (subst (λ (w : ℕ × ℕ). HaveSent flow.case r flow.state w.0 old now w.1) (λ j. (sym time_is j, sym first j)) before))

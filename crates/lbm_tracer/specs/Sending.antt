@@ -50,6 +50,11 @@ RowGoes case r row m now new result =
     (s : FlowState) (old : List ℤ) → ((x : ℕ) → x < row.space.nx → IsMomentOf case.stencil (population s (cell_at row x)) (m x))
     → HaveSent case r s row.time old now (cell_at row 0) → Goes case r s row.time old new (cell_at row row.width) result
 
+-- how far a row has gone by the state of a flow, where all cells before it have sent
+abbrev pub RowSends : Standing → RelaxationRates → TracerRow → (now new : List ℤ) → Result (Unit {0}) Unsent → Type 0
+RowSends flow r row now new result =
+    (old : List ℤ) → HaveSent flow.case r flow.state row.time old now (cell_at row 0) → Goes flow.case r flow.state row.time old new (cell_at row row.width) result
+
 -- what cell x makes of the amounts a, whatever the state of the flow of which it has this density and momentum
 abbrev pub Makes : FlowCase → RelaxationRates → Moment → ℕ → (ℕ → ℤ) → Result (List ℤ) Unsent → Type 0
 Makes case r flow x a (Ok p) =

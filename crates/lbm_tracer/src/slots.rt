@@ -1,18 +1,18 @@
 //! The amounts of a tracer in the slots of a region, laid out as those of the pattern `aa`.
 
-ghost use Rattle.std.specs.Prelude.{◌≡◌, ◌≢◌, ◌<◌, ◌≤◌, ◌+◌, ◌%◌, ℕ};
+ghost use Rattle.std.specs.Prelude.{◌≡◌, ◌≢◌, ◌<◌, ◌≤◌, ◌+◌, ◌%◌, ℕ, pos, IsTrue, length, slice_index_or};
 ghost use Rattle.lbm_space.specs.Torus.{cells, padded, rows};
 ghost use Rattle.lbm_cell.specs.Moments.{populations};
 ghost use Rattle.lbm_model.specs.Layout.{aa_layout, array_of, place_of};
 ghost use Rattle.lbm_tracer.specs.Tracing.{set_in, tracer_source};
 ghost use Rattle.lbm_tracer.specs.Carried.{IsTracerRegion, amount_in, places_of};
-ghost use Rattle.lbm_tracer.specs.Rows.{cell_at, IsAlong, IsTracerRow};
+ghost use Rattle.lbm_tracer.specs.Rows.{cell_at, IsAlong, IsTracerRow, HoldsNothing};
 
 use crate::TracerSet;
 use crate::collision::Amounts;
 use crate::constants::MAX_DIRECTIONS;
 use lbm_arrays::Region;
-use lbm_lattice::BASE;
+use lbm_lattice::{BASE, OWN};
 use lbm_space::{D2Q9, D3Q19, Space};
 use std::alloc::Allocator;
 
@@ -179,6 +179,44 @@ pub(crate) fn put_in_row<A: Allocator>(
         let (array, at) = row.slot(x, k);
         region.put(array, at, amounts[k]);
     }
+}
+
+// Whether each number of a run is 0. All are read, wherever the first other one stands: so the compiler takes several at once.
+fn are_zeros(run: &[i64]) -> bool
+    ensures { IsTrue result → (x : ℕ) → x < length run.now → slice_index_or run.now x (pos 0) ≡ pos 0 }
+{
+    let mut any = 0u64;
+    for x in 0..run.len() {
+        any |= run[x].cast_unsigned();
+    }
+    any == 0
+}
+
+// Whether a row holds nothing for direction `k`. Its amounts stand round after each other, and so in one run.
+fn is_without<A: Allocator>(region: &Region<A>, row: &TracerRow, k: usize) -> bool
+    requires row { IsTracerRow row.now }
+    requires laid { IsTracerRegion row.now.space region.now }
+    requires direction { k < (set_in row.now.space).directions }
+    ensures { IsTrue result → (x : ℕ) → x < row.now.width → amount_in row.now.space row.now.time region.now.slots (cell_at row.now x) k ≡ pos 0 }
+{
+    let slots = region.slots();
+    let size = OWN.margin as usize + row.space.padded() as usize;
+    let first = row.arrays[k] as usize * size + row.firsts[k] as usize;
+    are_zeros(&slots[first..first + row.width as usize])
+}
+
+/// Whether a row holds nothing: each amount of its cells is 0.
+pub(crate) fn is_row_empty<A: Allocator>(region: &Region<A>, row: &TracerRow) -> bool
+    requires row { IsTracerRow row.now }
+    requires laid { IsTracerRegion row.now.space region.now }
+    ensures { IsTrue result → HoldsNothing row.now region.now.slots }
+{
+    for k in 0..row.set.q() {
+        if !is_without(region, row, k) {
+            return false;
+        }
+    }
+    true
 }
 
 /// The amounts of a cell at a time.

@@ -13,12 +13,12 @@ ghost use Rattle.lbm_tracer.specs.Tracing.{set_in, is_tracer_sound, tracer_out_o
 ghost use Rattle.lbm_tracer.specs.Carried.{AreFew, IsTracerRegion, amount_in, carried};
 ghost use Rattle.lbm_tracer.specs.Rows.{IsTracerRow};
 ghost use Rattle.lbm_tracer.specs.FlowRows.{HasRoom, moment_at};
-ghost use Rattle.lbm_tracer.specs.Sending.{Goes, CellGoes, RowGoes, Makes, AnswersOut};
+ghost use Rattle.lbm_tracer.specs.Sending.{Goes, CellGoes, RowGoes, RowSends, Makes, AnswersOut};
 ghost use Rattle.lbm_tracer.specs.Running.{Follows};
 
 use crate::collision::{Amounts, collide, in_limits, is_empty, turn_back};
 use crate::flow_row::FlowRow;
-use crate::slots::{TracerRow, amounts_at, amounts_in_row, put_in_row};
+use crate::slots::{TracerRow, amounts_at, amounts_in_row, is_row_empty, put_in_row};
 use crate::{Tracer, TracerSet};
 use lbm_arrays::Region;
 use lbm_cell::{GREATEST_DENSITY, LEAST_DENSITY, Moment, Rates};
@@ -176,6 +176,32 @@ fn send_row<A: Allocator>(
     }
 }
 
+// The cells of a row send by the state of the flow. Where the row holds nothing, it has nothing to put, and the flow is not read.
+fn send_by<G: Gate, P: Pattern<G>, A: Allocator>(
+    region: &mut Region<A>,
+    flows: &mut FlowRow<A>,
+    row: &TracerRow,
+    rates: Rates,
+    flow: &P,
+) -> Result<(), Unsent>
+    requires row { IsTracerRow row.now }
+    requires laid { IsTracerRegion row.now.space region.old }
+    requires room { HasRoom row.now.space.nx flows.old }
+    requires few { AreFew row.now.space (amount_in row.now.space row.now.time region.old.slots) }
+    requires not_spent { IsNone (P.standing flow.now).spent }
+    requires space { (P.standing flow.now).case.torus ≡ row.now.space }
+    ensures sent { RowSends (P.standing flow.now) rates row.now region.old.slots region.new.slots result }
+    ensures few { AreFew row.now.space (amount_in row.now.space row.now.time region.new.slots) }
+    ensures room { HasRoom row.now.space.nx flows.new }
+    ensures same { region.new ≡ record region.old { slots = region.new.slots } }
+{
+    if is_row_empty(region, row) {
+        return Ok(());
+    }
+    flows.read::<G, P>(flow, row.number);
+    send_row(region, row, flow.case(), rates, flows)
+}
+
 // All cells send, row by row, by the state of the flow.
 fn send_all<G: Gate, P: Pattern<G>, A: Allocator>(
     region: &mut Region<A>,
@@ -198,8 +224,7 @@ fn send_all<G: Gate, P: Pattern<G>, A: Allocator>(
 {
     for number in 0..space.rows() {
         let row = TracerRow::of(space, time, number);
-        flows.read::<G, P>(flow, number);
-        send_row(region, &row, flow.case(), rates, flows)?;
+        send_by::<G, P, A>(region, flows, &row, rates, flow)?;
     }
     Ok(())
 }

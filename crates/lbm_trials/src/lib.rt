@@ -18,3 +18,5 @@ mod runs;
 mod symmetry_tests;
 #[cfg(test)]
 mod tests;
+#[cfg(test)]
+mod watch;

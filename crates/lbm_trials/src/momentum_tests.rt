@@ -1,6 +1,6 @@
 // How far the momentum of a fluid that a force pushes may drift in a run.
 use crate::runs::ran;
-use lbm_model::NoGate;
+use crate::watch::Watch;
 use std::alloc::Global;
 use std::test::Fail;
 
@@ -33,7 +33,7 @@ fn momentum_drifts_no_farther_than_the_law_says(rt: HostRuntime) -> Result<(), F
         ("D3Q27", 86400, 9600),
     ] {
         let case = pushed_case(alloc, set)?;
-        let (_, line) = ran(&rt, alloc, &case, "run c 100 o", &NoGate)?;
+        let (_, line) = ran(&rt, alloc, &case, "run c 100 o", &Watch::open())?;
         let told = momentum_told(&line).ok_or("a momentum is told")?;
         assert!(rt; told.abs_diff(given) <= farthest, "{set}");
     }

@@ -1,6 +1,6 @@
 // A run of a case through the top call, over files in memory.
+use crate::watch::Watch;
 use lbm_flow::{End, run_words};
-use lbm_model::Gate;
 use lbm_store::{MapStore, VecSink};
 use std::alloc::{AllocError, Global};
 use std::marker::Sync;
@@ -17,12 +17,12 @@ pub(crate) fn words_of(alloc: Global, line: &str) -> Result<Vec<String>, AllocEr
 }
 
 // What a run of the case in the file c to its last step writes to the file o, and what it tells, without the line's end.
-pub(crate) fn ran<R: Threads + Sync, G: Gate>(
+pub(crate) fn ran<R: Threads + Sync>(
     rt: &R,
     alloc: Global,
     case: &str,
     line: &str,
-    gate: &G,
+    gate: &Watch,
 ) -> Result<(String, String), Fail> {
     let mut store = MapStore::new(alloc, Vec::new(alloc));
     store.put("c", case.as_bytes())?;

@@ -1,7 +1,7 @@
 // Cases that are mirrored, turned over and shifted, through the whole program: the file of the moved case is the file of the case,
 // moved cell by cell. Walls move, there are two rates of relaxation, a force on each axis, and denser cells.
 use crate::runs::ran;
-use lbm_model::NoGate;
+use crate::watch::Watch;
 use std::alloc::Global;
 use std::marker::Sync;
 use std::process::Abort;
@@ -97,7 +97,7 @@ fn ran_by<R: Threads + Sync>(
     case: &str,
 ) -> Result<(String, String), Fail> {
     let line = format!(in alloc; "run c 7 o --workers 3 --pattern {pattern}")?;
-    ran(rt, alloc, case, &line, &NoGate)
+    ran(rt, alloc, case, &line, &Watch::open())
 }
 
 // The lines of a text.

@@ -1,7 +1,7 @@
 // Files that never fail, and memory that is refused.
 use crate::runs::words_of;
+use crate::watch::Watch;
 use lbm_flow::{End, run_in_memory, run_words};
-use lbm_model::NoGate;
 use lbm_store::{MapStore, SureSink, SureStore, VecSink};
 use std::test::Fail;
 
@@ -32,13 +32,29 @@ fn files_that_never_fail_give_the_answer_of_their_bytes(rt: HostRuntime) -> Resu
     let words = words_of(alloc, "run c 10 o")?;
     let mut store = SureStore::new(alloc);
     let mut sink = SureSink::new(alloc);
-    let end = run_in_memory(&rt, alloc, alloc, &words, &mut store, &mut sink, &NoGate);
+    let end = run_in_memory(
+        &rt,
+        alloc,
+        alloc,
+        &words,
+        &mut store,
+        &mut sink,
+        &Watch::open(),
+    );
     assert_eq!(rt; end.status(), 3);
     assert_eq!(rt; sink.bytes(), b"refused: missing key set\n".as_slice());
     assert!(rt; store.bytes("o").is_none());
     store.put("c", ONE_CELL)?;
     let mut sink = SureSink::new(alloc);
-    let end = run_in_memory(&rt, alloc, alloc, &words, &mut store, &mut sink, &NoGate);
+    let end = run_in_memory(
+        &rt,
+        alloc,
+        alloc,
+        &words,
+        &mut store,
+        &mut sink,
+        &Watch::open(),
+    );
     assert_eq!(rt; end, End::Done);
     assert_eq!(rt; sink.bytes(), ONE_CELL_LINE);
     assert_eq!(rt; store.bytes("o"), Some(ONE_CELL_VTK));
@@ -58,7 +74,15 @@ fn want_of_memory_leaves_at_most_a_front_of_the_file(rt: HostRuntime) {
         return;
     };
     let mut sink = VecSink::new(alloc, Vec::new(alloc));
-    let end = run_words(&rt, alloc, alloc, &words, &mut store, &mut sink, &NoGate);
+    let end = run_words(
+        &rt,
+        alloc,
+        alloc,
+        &words,
+        &mut store,
+        &mut sink,
+        &Watch::open(),
+    );
     let out = store.bytes("o").unwrap_or(b"");
     if end == End::Memory {
         assert!(rt; ONE_CELL_VTK.starts_with(out));

@@ -102,11 +102,6 @@ impl<V: VelocitySet> Taking<V> for PlacesBehind<'_> {
         eight_at(self.numbers, self.starts[dir] + (at - 1) as usize)
     }
 
-    #[inline(always)]
-    fn bring(&self, _loan: &mut Loan<'_>, _at: u32, _width: u32) -> bool {
-        false
-    }
-
     ghost still_fits = { λ w writes a b from to but fit i p known inner inside. fit i p known inner (subst (λ (len : ℕ). p + 1 < len) but.wide inside) };
 
     ghost still_pending = { λ w a b at n i p but past. refl };

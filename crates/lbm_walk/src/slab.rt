@@ -7,14 +7,14 @@ ghost use Rattle.lbm_walk.specs.First.{IsFirst};
 ghost use Rattle.lbm_walk.specs.Places.{InRows, IsRow, local};
 ghost use Rattle.lbm_walk.specs.Walked.{IsWalked};
 
-use crate::row::{first_in_row, next_from};
-use crate::{Kernel, SlabWalk, Walk};
+use crate::row::{collide_row, first_in_row, next_from};
+use crate::{Kernel, Walk};
 use lbm_space::{Space, VelocitySet};
 
 /// The cells of all rows of a slab, in the order of the walk. What a walk takes and puts is said of places in the slab's
 /// ranges. The answer is the first cell out of limits.
 #[inline(always)]
-pub fn collide_slab<V: VelocitySet, K: Kernel<V>, W: SlabWalk<V>>(
+pub fn collide_slab<V: VelocitySet, K: Kernel<V>, W: Walk<V>>(
     kernel: &K,
     walk: &mut W,
     space: &Space,
@@ -34,7 +34,7 @@ pub fn collide_slab<V: VelocitySet, K: Kernel<V>, W: SlabWalk<V>>(
     for done in 0..count {
         let number = rows.0 + next_from::<V, W>(count, done, 1);
         let row = slab_row(space, rows, number);
-        if let Some(cell) = walk.collide_row_by(kernel, row.cell, row.at, row.width) {
+        if let Some(cell) = collide_row(kernel, walk, row.cell, row.at, row.width) {
             if W::rises() {
                 return Some(cell);
             }

@@ -1,5 +1,4 @@
-use Rattle.std.proofs.Common.{rules, ◌≡◌, ℕ, ◌*◌, ◌<◌, ◌≤◌, List, length, slice_get, Some, ap, sym, ◌∙◌, subst, arith}
-use Rattle.lbm_space.specs.Torus.{rows}
+use Rattle.std.proofs.Common.{rules, ◌≡◌, List, slice_get, Some, sym, ◌∙◌, subst}
 use Rattle.lbm_rows.specs.Lending.{TileModel}
 use Rattle.lbm_rows.specs.Tiles.{AreLent, AreTiles}
 use Rattle.lbm_rows.proofs.StepMade.{few_tiles, tiles_are, tiles_back, fresh_serves}

@@ -1,9 +1,9 @@
-use Rattle.std.proofs.Common.{rules, ◌≡◌, ℕ, ◌+◌, ◌-◌, ◌*◌, ◌<◌, ◌≤◌, min, List, [], ℤ, length, Some, slice_get, ap, sym, ◌∙◌, subst, arith}
+use Rattle.std.proofs.Common.{rules, ◌≡◌, ℕ, ◌-◌, ◌*◌, ◌<◌, ◌≤◌, min, List, [], length, Some, slice_get, ap, sym, ◌∙◌, subst, arith}
 use Rattle.std.specs.Prelude.{slice_index_or}
 use Rattle.std.proofs.lemmas.List.Elements.{All-pop}
 use Rattle.std.proofs.lemmas.Nat.{mul-le}
 use Rattle.lbm_space.specs.Stencil.{Stencil}
-use Rattle.lbm_space.specs.Torus.{Torus, rows}
+use Rattle.lbm_space.specs.Torus.{rows}
 use Rattle.lbm_rows.specs.declared.dealing.TileRoom.{TileRoom}
 use Rattle.lbm_rows.specs.Lending.{TileModel, entry_number, IsLent}
 use Rattle.lbm_rows.specs.Tiles.{tile_bounds, IsCut}

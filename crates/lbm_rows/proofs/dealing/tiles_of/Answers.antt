@@ -1,5 +1,4 @@
-use Rattle.std.proofs.Common.{rules, ◌≡◌, ℕ, ◌+◌, ◌*◌, ◌/◌, ◌%◌, ◌<◌, ◌≤◌, min, length, ap, sym, ◌∙◌, subst, arith}
-use Rattle.std.proofs.lemmas.Nat.{mod_below}
+use Rattle.std.proofs.Common.{◌≡◌, ℕ, ◌*◌, min, ap, sym, ◌∙◌, subst, arith}
 use Rattle.lbm_space.specs.Torus.{rows}
 use Rattle.lbm_rows.specs.Tiles.{IsCut}
 use Rattle.lbm_rows.proofs.StepMade.{cut_by}

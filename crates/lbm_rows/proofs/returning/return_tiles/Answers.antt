@@ -1,11 +1,10 @@
-use Rattle.std.proofs.Common.{◌≡◌, ℕ, ◌*◌, ◌<◌, List, length, slice_get, Some, ap, sym, ◌∙◌, subst, arith}
+use Rattle.std.proofs.Common.{◌≡◌, ◌*◌, ◌<◌, length, slice_get, Some, ap, sym, ◌∙◌, arith}
 use Rattle.std.specs.Prelude.{slice_index_or}
 use Rattle.std.proofs.lemmas.List.{length-set, get_or-set_other}
 use Rattle.std.proofs.lemmas.Option.{slice_get-get_or, slice_get_within}
 use Rattle.lbm_space.specs.Stencil.{Stencil}
 use Rattle.lbm_space.specs.Torus.{rows}
 use Rattle.lbm_rows.specs.Lending.{TileModel, height}
-use Rattle.lbm_rows.specs.Tiles.{IsTileAt}
 use Rattle.lbm_rows.proofs.Cuts.{back_more, tiles_rows}
 use Rattle.lbm_rows.proofs.returning.return_tiles.Goals as goal
 

@@ -1,12 +1,10 @@
-use Rattle.std.proofs.Common.{rules, FitsSigned, w64, ◌≡◌, ℕ, ◌+◌, ◌*◌, ◌/◌, ◌%◌, ◌<◌, [], length, get_or, ap, sym, subst, ◌∙◌, arith}
-use Rattle.std.specs.Prelude.{slice_index_or}
+use Rattle.std.proofs.Common.{rules, FitsSigned, w64, ◌≡◌, ℕ, ◌+◌, ◌*◌, ◌/◌, ◌%◌, ◌<◌, get_or, ap, sym, subst, ◌∙◌, arith}
 use Rattle.std.proofs.lemmas.Int.{to_z-of_z}
 use Rattle.std.proofs.lemmas.Nat.{mul-add-lt, mod_below}
 use Rattle.lbm_space.specs.Stencil.{Stencil}
 use Rattle.lbm_space.specs.Torus.{Torus, cells, rows}
 use Rattle.lbm_cell.specs.Rows.{entry}
 use Rattle.lbm_walk.proofs.Places.{width, row_known}
-use Rattle.lbm_rows.proofs.standing.population_at.Given as given
 use Rattle.lbm_rows.proofs.standing.population_at.Goals as goal
 
 pub row_number-row-requires-clause-row : goal.row_number-row-requires-clause-row

@@ -1,4 +1,4 @@
-use Rattle.std.proofs.Common.{rules, ◌≡◌, ◌⊎◌, ℕ, ◌+◌, ◌<◌, ◌≤◌, ◌^◌, List, length, slice_get, Some, refl, ap, sym, ◌∙◌, subst, arith, inl, inr}
+use Rattle.std.proofs.Common.{◌≡◌, ℕ, ◌+◌, List, slice_get, Some, sym, subst}
 use Rattle.std.specs.Prelude.{Option}
 use Rattle.lbm_rows.specs.Lending.{TileModel}
 use Rattle.lbm_rows.specs.Tiles.{ArePieces}

@@ -1,7 +1,7 @@
-use Rattle.std.proofs.Common.{◌≡◌, ℕ, ◌<◌, List, length, map, slice_get, Some, ap, sym, ◌∙◌, subst, arith}
+use Rattle.std.proofs.Common.{◌≡◌, ℕ, ◌<◌, List, length, map, slice_get, ap, ◌∙◌, subst, arith}
 use Rattle.std.proofs.lemmas.List.{with_items_is}
 use Rattle.lbm_board.specs.BoardRecord.{IsClosed}
-use Rattle.lbm_board.specs.Models.{TurnModel, log_of, fresh_turn}
+use Rattle.lbm_board.specs.Models.{TurnModel, log_of}
 use Rattle.lbm_rows.specs.Lending.{TileModel}
 use Rattle.lbm_rows.proofs.StepMade.{closed_off}
 use Rattle.lbm_rows.proofs.step.work_off.Goals as goal

@@ -1,4 +1,4 @@
-use Rattle.std.proofs.Common.{◌≡◌, ap, rules}
+use Rattle.std.proofs.Common.{rules}
 use Rattle.lbm_sweep.proofs.Held.{but_as, lent_as}
 use Rattle.lbm_sweep.proofs.rows.collide_clear.Goals as goal
 

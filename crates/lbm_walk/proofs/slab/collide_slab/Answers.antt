@@ -10,42 +10,38 @@ use Rattle.lbm_walk.proofs.Parts.{walked_as, walked_on, walked_all, found_rising
 use Rattle.lbm_walk.proofs.Places.{rows_between, rows_cells, row_of, row_here, row_local, row_ends, row_known_all, row_inside, row_few, row_pending, row_beside, row_outside, row_taken, row_small}
 use Rattle.lbm_walk.proofs.slab.collide_slab.Goals as goal
 
-pub collide_row_by-requires-clause-known : goal.collide_row_by-requires-clause-known
-collide_row_by-requires-clause-known g c =
+pub collide_row-requires-clause-known : goal.collide_row-requires-clause-known
+collide_row-requires-clause-known g c =
     let W = g.W.Walk in let t = c.args.space.now in let space = c.requires.space in let rows = c.args.rows in let done = c.loop-done.done in let inv = c.loop-done.invariant in let more = c.loop-done-test.true in
     let count : ℕ = rows.1 - rows.0 in let next = c.next_from.result in let is_next = c.next_from.ensures in let number : ℕ = rows.0 + next in let fits : done + 1 ≤ count = omega (arith, more) in let ends = next_inside W.RISES count done 1 fits in let row = c.slab_row-row.result in let is = c.slab_row-row.ensures in
     let all = row_known_all t space rows number row.cell row.at row.width is in let cells = c.requires.cells in omega (arith, all, cells)
 
-pub collide_row_by-requires-clause-some : goal.collide_row_by-requires-clause-some
-collide_row_by-requires-clause-some g c =
-    let some = c.requires.space.some_x in let whole = c.slab_row-row.ensures.whole in omega (arith, some, whole)
-
-pub collide_row_by-requires-clause-inner : goal.collide_row_by-requires-clause-inner
-collide_row_by-requires-clause-inner g c =
+pub collide_row-requires-clause-inner : goal.collide_row-requires-clause-inner
+collide_row-requires-clause-inner g c =
     let W = g.W.Walk in let t = c.args.space.now in let space = c.requires.space in let rows = c.args.rows in let done = c.loop-done.done in let inv = c.loop-done.invariant in let more = c.loop-done-test.true in
     let count : ℕ = rows.1 - rows.0 in let next = c.next_from.result in let is_next = c.next_from.ensures in let number : ℕ = rows.0 + next in let fits : done + 1 ≤ count = omega (arith, more) in let ends = next_inside W.RISES count done 1 fits in let row = c.slab_row-row.result in let is = c.slab_row-row.ensures in
     (row_inside t space rows number row.cell row.at row.width is).0
 
-pub collide_row_by-requires-clause-inside : goal.collide_row_by-requires-clause-inside
-collide_row_by-requires-clause-inside g c =
+pub collide_row-requires-clause-inside : goal.collide_row-requires-clause-inside
+collide_row-requires-clause-inside g c =
     let W = g.W.Walk in let t = c.args.space.now in let space = c.requires.space in let rows = c.args.rows in let done = c.loop-done.done in let inv = c.loop-done.invariant in let more = c.loop-done-test.true in
     let count : ℕ = rows.1 - rows.0 in let next = c.next_from.result in let is_next = c.next_from.ensures in let number : ℕ = rows.0 + next in let fits : done + 1 ≤ count = omega (arith, more) in let ends = next_inside W.RISES count done 1 fits in let row = c.slab_row-row.result in let is = c.slab_row-row.ensures in
     let within = (row_inside t space rows number row.cell row.at row.width is).1 in let places = c.requires.places in let still = inv.places in omega (arith, within, places, still)
 
-pub collide_row_by-requires-clause-cells_fit : goal.collide_row_by-requires-clause-cells_fit
-collide_row_by-requires-clause-cells_fit g c =
+pub collide_row-requires-clause-cells_fit : goal.collide_row-requires-clause-cells_fit
+collide_row-requires-clause-cells_fit g c =
     let W = g.W.Walk in let t = c.args.space.now in let space = c.requires.space in let rows = c.args.rows in let done = c.loop-done.done in let inv = c.loop-done.invariant in let more = c.loop-done-test.true in
     let count : ℕ = rows.1 - rows.0 in let next = c.next_from.result in let is_next = c.next_from.ensures in let number : ℕ = rows.0 + next in let fits : done + 1 ≤ count = omega (arith, more) in let ends = next_inside W.RISES count done 1 fits in let row = c.slab_row-row.result in let is = c.slab_row-row.ensures in
     let few = (row_few t space rows number row.cell row.at row.width is).0 in omega (arith, few)
 
-pub collide_row_by-requires-clause-places_fit : goal.collide_row_by-requires-clause-places_fit
-collide_row_by-requires-clause-places_fit g c =
+pub collide_row-requires-clause-places_fit : goal.collide_row-requires-clause-places_fit
+collide_row-requires-clause-places_fit g c =
     let W = g.W.Walk in let t = c.args.space.now in let space = c.requires.space in let rows = c.args.rows in let done = c.loop-done.done in let inv = c.loop-done.invariant in let more = c.loop-done-test.true in
     let count : ℕ = rows.1 - rows.0 in let next = c.next_from.result in let is_next = c.next_from.ensures in let number : ℕ = rows.0 + next in let fits : done + 1 ≤ count = omega (arith, more) in let ends = next_inside W.RISES count done 1 fits in let row = c.slab_row-row.result in let is = c.slab_row-row.ensures in
     let few = (row_few t space rows number row.cell row.at row.width is).1 in omega (arith, few)
 
-pub collide_row_by-requires-clause-small : goal.collide_row_by-requires-clause-small
-collide_row_by-requires-clause-small g c =
+pub collide_row-requires-clause-small : goal.collide_row-requires-clause-small
+collide_row-requires-clause-small g c =
     let W = g.W.Walk in let t = c.args.space.now in let space = c.requires.space in let rows = c.args.rows in let done = c.loop-done.done in let inv = c.loop-done.invariant in let more = c.loop-done-test.true in
     let count : ℕ = rows.1 - rows.0 in let next = c.next_from.result in let is_next = c.next_from.ensures in let number : ℕ = rows.0 + next in let fits : done + 1 ≤ count = omega (arith, more) in let ends = next_inside W.RISES count done 1 fits in let row = c.slab_row-row.result in let is = c.slab_row-row.ensures in
     let q = g.V.VelocitySet.stencil.directions in let now = c.loop-done.walk in let start = c.args.walk.now in
@@ -70,8 +66,8 @@ returns-then-rises-clause-done g c = λ f taken.
     let from : row.cell ≡ cell_of (next_from W.RISES count done 1) = is.first ∙ ap cell_of is_next in
     let to : row.cell + row.width ≡ cell_of (next_from W.RISES count done 1 + 1) = row_ends t space rows number row.cell row.at row.width is ∙ ap (λ m. m * t.nx) (let e : number + 1 ≡ rows.0 + (next_from W.RISES count done 1 + 1) = omega (arith, is_next) in e) in
     let met : IsFirst test (cell_of (next_from W.RISES count done 1)) (cell_of (next_from W.RISES count done 1 + 1)) (Some bad) = subst (λ (p : ℕ × ℕ). IsFirst test p.0 p.1 (Some bad)) (λ k. (from k, to k)) one.first in
-    let both = found_rising sound post q (local t rows) f cell_of order W.RISES count done 1 bad (W.after now) (W.after c.collide_row_by.new.self) (sym c.rises.ensures ∙ c.if-rises.true) fits (inv.cells f taken) met in
-    subst (λ (p : ℕ × ℕ). IsWalked sound post q (local t rows) p.0 p.1 f (W.after c.collide_row_by.new.self) (Some bad)) (λ k. (none k, all k)) both
+    let both = found_rising sound post q (local t rows) f cell_of order W.RISES count done 1 bad (W.after now) (W.after c.collide_row.new.walk) (sym c.rises.ensures ∙ c.if-rises.true) fits (inv.cells f taken) met in
+    subst (λ (p : ℕ × ℕ). IsWalked sound post q (local t rows) p.0 p.1 f (W.after c.collide_row.new.walk) (Some bad)) (λ k. (none k, all k)) both
 
 pub returns-then-rises-clause-others : goal.returns-then-rises-clause-others
 returns-then-rises-clause-others g c = λ k p empty.
@@ -131,19 +127,19 @@ loop-done-preserved g c =
     let still : (i x : ℕ) → i < q → x < row.width → W.before now i (local t rows (row.cell + x)) ≡ W.before start i (local t rows (row.cell + x)) =
     λ i x known here. inv.pending i (row.cell + x) known (row_here t space rows number row.cell row.at row.width is x here)
     (let e : number + 0 ≡ (row.cell + x) / t.nx = omega (arith, row_of t space rows number row.cell row.at row.width is x here) in subst (λ (p : ℕ). IsPending W.RISES (rows.0 + done_from W.RISES count done) done p) e (pending_next W.RISES rows.0 count done 1 next number 0 fits is_next refl (omega arith))) in
-    let two = c.collide_row_by.new.self in
+    let two = c.collide_row.new.walk in
     record {
       pending = λ i x known here later.
           let on = pending_on W.RISES rows.0 count done 1 (x / t.nx) fits later in let e : rows.0 + next_from W.RISES count done 1 ≡ number = omega (arith, is_next) in
-          c.collide_row_by.ensures.pending i (local t rows x) known (row_pending t space rows number row.cell row.at row.width is W.RISES x here (subst (λ (m : ℕ). IsPending W.RISES m 1 (x / t.nx)) e on.1)) ∙ inv.pending i x known here on.0;
-      others = λ k p empty. c.collide_row_by.ensures.others k p (row_outside t space rows number row.cell row.at row.width is p empty) ∙ inv.others k p empty;
-      places = c.collide_row_by.ensures.places ∙ inv.places;
-      same = g.met.W.Walk.same_on start now two inv.same c.collide_row_by.ensures.same;
+          c.collide_row.ensures.pending i (local t rows x) known (row_pending t space rows number row.cell row.at row.width is W.RISES x here (subst (λ (m : ℕ). IsPending W.RISES m 1 (x / t.nx)) e on.1)) ∙ inv.pending i x known here on.0;
+      others = λ k p empty. c.collide_row.ensures.others k p (row_outside t space rows number row.cell row.at row.width is p empty) ∙ inv.others k p empty;
+      places = c.collide_row.ensures.places ∙ inv.places;
+      same = g.met.W.Walk.same_on start now two inv.same c.collide_row.ensures.same;
       cells = λ f taken.
           let K = g.K.Kernel in let sound = K.sound c.args.kernel.now in let post = K.post c.args.kernel.now in let test : ℕ → Bool = λ x. sound x (f x) in
           let took = row_taken t space rows number row.cell row.at row.width is q (W.before now) (W.before start) still f taken in
           let cell_of : ℕ → ℕ = λ m. (rows.0 + m) * t.nx in let order : (a b : ℕ) → a ≤ b → cell_of a ≤ cell_of b = λ a b le. mul-le-mul_right t.nx (omega (arith, le)) in
-          let one = c.collide_row_by.ensures.done f took (local t rows) (row_local t space rows number row.cell row.at row.width is) in let told = c.in_default.is in
+          let one = c.collide_row.ensures.done f took (local t rows) (row_local t space rows number row.cell row.at row.width is) in let told = c.in_default.is in
           let from : row.cell ≡ cell_of (next_from W.RISES count done 1) = is.first ∙ ap cell_of is_next in
           let to : row.cell + row.width ≡ cell_of (next_from W.RISES count done 1 + 1) = row_ends t space rows number row.cell row.at row.width is ∙ ap (λ m. m * t.nx) (let e : number + 1 ≡ rows.0 + (next_from W.RISES count done 1 + 1) = omega (arith, is_next) in e) in
           let reach = done_inside W.RISES count done (omega (arith, fits)) in
@@ -155,7 +151,7 @@ loop-done-preserved g c =
             | inl less ↦ inl (omega (arith, less, is_next, above))
             | inr past ↦ inr (omega (arith, past, is_next, above))
           ] in
-          c.collide_row_by.ensures.beside i (local t rows x) known (row_beside t space rows number row.cell row.at row.width is x here apart)) (inv.cells f taken) in
+          c.collide_row.ensures.beside i (local t rows x) known (row_beside t space rows number row.cell row.at row.width is x here apart)) (inv.cells f taken) in
           walked_on sound post q (local t rows) f cell_of order W.RISES count done 1 (W.after two) fits old
           (subst (λ (p : (ℕ × ℕ) × Option ℕ). IsWalked sound post q (local t rows) p.0.0 p.0.1 f (W.after two) p.1) (λ k. ((from k, to k), told k)) one);
     }

@@ -1,4 +1,4 @@
-use Rattle.std.proofs.Common.{◌≡◌, sym, subst}
+use Rattle.std.proofs.Common.{sym, subst}
 use Rattle.lbm_model.specs.Small.{IsSmall}
 use Rattle.lbm_model.proofs.SmallStates.{small-narrow}
 use Rattle.lbm_rows.proofs.tiles.Tiles.start.Goals as goal

@@ -1,5 +1,5 @@
-use Rattle.std.proofs.Common.{◌≡◌, ◌+◌, ◌<◌, ℕ, slice_index, refl, sym, subst, ◌∙◌, arith}
-use Rattle.lbm_arrays.specs.Lent.{Lent, Place}
+use Rattle.std.proofs.Common.{◌≡◌, ◌+◌, ◌<◌, ℕ, refl, sym, subst}
+use Rattle.lbm_arrays.specs.Lent.{Place}
 use Rattle.lbm_walk.specs.First.{IsFirst}
 use Rattle.lbm_walk.specs.Walked.{AreTaken}
 use Rattle.lbm_sweep.specs.Held.{BeginAt, IsSameBut, IsWithin}
@@ -15,7 +15,7 @@ invariant_of-self g c =
     let but : IsSameBut w.at (w.at + w.n) w.loan.now c.collide_clear.new.loan = subst (λ (n : ℕ). IsSameBut w.at (w.at + n) w.loan.now c.collide_clear.new.loan) (sym whole) done.but in
     let q = g.V.VelocitySet.stencil.directions in
     record {
-      within = within_but q w.at w.n w.at (w.at + w.n) w.loan.now c.collide_clear.new.loan but w.within;
+      within = within_but q w.at w.n w.loan.now c.collide_clear.new.loan but w.within;
       table = w.table;
       begins = subst (λ (p : Place). BeginAt q p w.writes.now w.to.now) (sym but.place) w.begins;
       fitting = g.met.T.Taking.still_fits w.taking.now w.writes.now w.loan.now c.collide_clear.new.loan w.at (w.at + w.n) but w.fitting;
