@@ -2,12 +2,13 @@
 ghost use Rattle.std.specs.Prelude.{◌≡◌, ◌≤◌, IsNone};
 ghost use Rattle.lbm_model.specs.Limits.{most_steps};
 
+use crate::watch::Watch;
 use lbm_aa::Aa;
 use lbm_case::read_case;
 use lbm_flow::{RunEnd, run_pattern, state_of};
 use lbm_grid::Grid;
 use lbm_lattice::Pattern;
-use lbm_model::{Case, NoGate, State, at_set};
+use lbm_model::{Case, State, at_set};
 use lbm_plain::{Plain, first_of};
 use lbm_rows::{Tiles, tile_rows};
 use lbm_space::{Cutting, VelocitySet};
@@ -30,7 +31,7 @@ enum Kind {
 }
 
 // The state that a pattern reaches, or how its run ends before.
-fn reached<R: Threads + Sync, P: Pattern<NoGate> + Drop>(
+fn reached<R: Threads + Sync, P: Pattern<Watch> + Drop>(
     rt: &R,
     alloc: Global,
     mut pattern: P,
@@ -40,7 +41,7 @@ fn reached<R: Threads + Sync, P: Pattern<NoGate> + Drop>(
     requires begins { (P.standing pattern).time ≤ steps }
     requires few { steps ≤ most_steps }
 {
-    match run_pattern(rt, &mut pattern, steps, &NoGate) {
+    match run_pattern(rt, &mut pattern, steps, &Watch::open()) {
         Ok(()) => Ok(Ok(state_of(alloc, &pattern)?)),
         Err(end) => Ok(Err(end)),
     }

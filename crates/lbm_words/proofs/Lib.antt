@@ -4,5 +4,5 @@ pub mod RateLemmas
 pub mod CommandLemmas
 pub mod EndLemmas
 pub mod Ranges
-pub mod OtherWords
+pub mod FirstWord
 pub mod Worked

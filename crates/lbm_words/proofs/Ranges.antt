@@ -7,6 +7,8 @@ use Rattle.std.proofs.lemmas.Slice.Eq.{bytes_eq-Decides}
 use Rattle.std.proofs.lemmas.List.Splits.{length-slice_split}
 use Rattle.clap.specs.Walk.{Row, Text, first_of}
 use Rattle.lbm_words.specs.declared.end.WordsEnd.{WordsEnd}
+use Rattle.lbm_words.specs.declared.commands.CommandKind.{CommandKind}
+use Rattle.lbm_words.specs.declared.commands.CommandKind.TheVariants as commands
 use Rattle.lbm_words.specs.declared.request.PatternKind.TheVariants.{Aa}
 use Rattle.lbm_words.specs.Ends.{Gives}
 use Rattle.lbm_words.specs.Names.{pattern_named}
@@ -15,9 +17,9 @@ use Rattle.lbm_words.specs.Numbers.{number_between, numbers_of, each, is_comma}
 use Rattle.lbm_cell.specs.Collision.{IsRates, rates}
 use Rattle.lbm_words.specs.Rate.{is_rate, rate, rate_of_two, rate_of}
 use Rattle.lbm_words.proofs.RateLemmas.{rate_allowed}
-use Rattle.lbm_words.specs.Commands.{run_app, check_app, demo_app, voxels_app, tracer_app}
+use Rattle.lbm_words.specs.Commands.{app_for}
 use Rattle.lbm_words.specs.Request.{IsChoice, IsRun, IsRequest, run}
-use Rattle.lbm_words.specs.Words.{◌>>=◌, demand, required, optional, steps_of, format_of, choice_of, is_other, run_of, check_of, demo_of, voxels_of, tracer_rate_of, tracer_of, taken, run_asked, check_asked, demo_asked, voxels_asked, tracer_asked}
+use Rattle.lbm_words.specs.Words.{◌>>=◌, demand, required, optional, steps_of, format_of, choice_of, is_other, run_of, check_of, demo_of, voxels_of, tracer_rate_of, tracer_of, taken, asked, read_by}
 
 first_true : (a b : Bool) → (a && b) ≡ true → a ≡ true
 first_true true b both = refl
@@ -258,25 +260,16 @@ tracer_of-ranges rows =
       trace_is_not_out = is_other-differs out (Some trace) (second_true (is_other case (Some out) && is_other case (Some trace)) _ differ);
     }))))))))))
 
-pub run_asked-ranges : (words : List Text) → IfSome (run_asked words) IsRequest
-unfolding run_asked
-run_asked-ranges words = IfSome-option_map run (taken run_app words >>= run_of) IsRun IsRequest (IfSome-pass (taken run_app words) run_of IsRun run_of-ranges) (λ r is. is)
+asked-ranges : (kind : CommandKind) (rows : List Row) → IfSome (asked kind rows) IsRequest
+asked-ranges commands.Run rows = IfSome-option_map run (run_of rows) IsRun IsRequest (run_of-ranges rows) (λ r is. is)
+asked-ranges commands.Check rows = check_of-ranges rows
+asked-ranges commands.Demo rows = demo_of-ranges rows
+asked-ranges commands.Voxels rows = voxels_of-ranges rows
+asked-ranges commands.Tracer rows = tracer_of-ranges rows
 
-pub check_asked-ranges : (words : List Text) → IfSome (check_asked words) IsRequest
-unfolding check_asked
-check_asked-ranges words = IfSome-pass (taken check_app words) check_of IsRequest check_of-ranges
-
-pub voxels_asked-ranges : (words : List Text) → IfSome (voxels_asked words) IsRequest
-unfolding voxels_asked
-voxels_asked-ranges words = IfSome-pass (taken voxels_app words) voxels_of IsRequest voxels_of-ranges
-
-pub demo_asked-ranges : (words : List Text) → IfSome (demo_asked words) IsRequest
-unfolding demo_asked
-demo_asked-ranges words = IfSome-pass (taken demo_app words) demo_of IsRequest demo_of-ranges
-
-pub tracer_asked-ranges : (words : List Text) → IfSome (tracer_asked words) IsRequest
-unfolding tracer_asked
-tracer_asked-ranges words = IfSome-pass (taken tracer_app words) tracer_of IsRequest tracer_of-ranges
+pub read_by-ranges : (kind : CommandKind) (words : List Text) → IfSome (read_by kind words) IsRequest
+unfolding read_by
+read_by-ranges kind words = IfSome-pass (taken (app_for kind) words) (asked kind) IsRequest (asked-ranges kind)
 
 -- what a function gave is in range where the reading is
 pub Gives-ranges : {X Y : Type 0} (view : X → Y) (r : Result X WordsEnd) (reading : Option Y) (P : Y → Type 0) → Gives view r reading → IfSome reading P → IfOk r (λ x. P (view x))

@@ -11,7 +11,7 @@ use Rattle.lbm_words.specs.Numbers.{numbers_of}
 use Rattle.lbm_words.specs.Rate.{rate_of}
 use Rattle.lbm_words.specs.Commands.{run_app, check_app, demo_app, voxels_app, tracer_app}
 use Rattle.lbm_words.specs.Request.{run, check, voxels, tracer}
-use Rattle.lbm_words.specs.Words.{request_of, run_asked, check_asked, demo_asked, voxels_asked, tracer_asked, run_of, check_of, demo_of, voxels_of, tracer_of, choice_of}
+use Rattle.lbm_words.specs.Words.{request_of, read_by, run_of, check_of, demo_of, voxels_of, tracer_of, choice_of}
 
 plain_run : request_of (codes "run" ∷ codes "c" ∷ codes "5" ∷ codes "o" ∷ []) ≡ Some (run (record {
   case = codes "c";
@@ -22,7 +22,7 @@ plain_run : request_of (codes "run" ∷ codes "c" ∷ codes "5" ∷ codes "o" �
   save = None;
   format = Ascii;
 }))
-unfolding request_of run_asked run_app run_of choice_of number_of numbers_of clap_on_literals
+unfolding request_of read_by run_app run_of choice_of number_of numbers_of clap_on_literals
 plain_run = refl
 
 full_run : request_of (codes "run" ∷ codes "--tile=3" ∷ codes "--workers" ∷ codes "4" ∷ codes "--save" ∷ codes "s" ∷ codes "c" ∷ codes "--cut=01,20" ∷ codes "05" ∷ codes "--resume=s" ∷ codes "--pattern" ∷ codes "tiles" ∷ codes "--format" ∷ codes "binary" ∷ codes "--" ∷ codes "--o" ∷ []) ≡ Some (run (record {
@@ -34,11 +34,11 @@ full_run : request_of (codes "run" ∷ codes "--tile=3" ∷ codes "--workers" �
   save = Some (codes "s");
   format = Binary;
 }))
-unfolding request_of run_asked run_app run_of choice_of number_of numbers_of clap_on_literals
+unfolding request_of read_by run_app run_of choice_of number_of numbers_of clap_on_literals
 full_run = refl
 
 plain_check : request_of (codes "check" ∷ codes "c" ∷ []) ≡ Some (check (record { case = codes "c" }))
-unfolding request_of check_asked check_app check_of number_of numbers_of clap_on_literals
+unfolding request_of read_by check_app check_of number_of numbers_of clap_on_literals
 plain_check = refl
 
 plain_voxels : request_of (codes "voxels" ∷ codes "v" ∷ codes "c" ∷ codes "--save" ∷ codes "s" ∷ codes "5" ∷ codes "o" ∷ []) ≡ Some (voxels (record {
@@ -53,7 +53,7 @@ plain_voxels : request_of (codes "voxels" ∷ codes "v" ∷ codes "c" ∷ codes 
     format = Ascii;
   };
 }))
-unfolding request_of voxels_asked voxels_app voxels_of run_of choice_of number_of numbers_of clap_on_literals
+unfolding request_of read_by voxels_app voxels_of run_of choice_of number_of numbers_of clap_on_literals
 plain_voxels = refl
 
 plain_tracer : request_of (codes "tracer" ∷ codes "c" ∷ codes "2" ∷ codes "o" ∷ codes "tr" ∷ codes "600" ∷ codes "0" ∷ []) ≡ Some (tracer (record {
@@ -67,7 +67,7 @@ plain_tracer : request_of (codes "tracer" ∷ codes "c" ∷ codes "2" ∷ codes 
   choice = record { pattern = Aa; workers = 1; cut = None; tile = 8 };
   format = Ascii;
 }))
-unfolding request_of tracer_asked tracer_app tracer_of choice_of number_of numbers_of rate_of clap_on_literals
+unfolding request_of read_by tracer_app tracer_of choice_of number_of numbers_of rate_of clap_on_literals
 plain_tracer = refl
 
 full_tracer : request_of (codes "tracer" ∷ codes "--rate=1023,0512" ∷ codes "c" ∷ codes "5" ∷ codes "--format" ∷ codes "binary" ∷ codes "o" ∷ codes "tr" ∷ codes "--pattern=tiles" ∷ codes "16777216" ∷ codes "999999999" ∷ []) ≡ Some (tracer (record {
@@ -81,7 +81,7 @@ full_tracer : request_of (codes "tracer" ∷ codes "--rate=1023,0512" ∷ codes 
   choice = record { pattern = Tiles; workers = 1; cut = None; tile = 8 };
   format = Binary;
 }))
-unfolding request_of tracer_asked tracer_app tracer_of choice_of number_of numbers_of rate_of clap_on_literals
+unfolding request_of read_by tracer_app tracer_of choice_of number_of numbers_of rate_of clap_on_literals
 full_tracer = refl
 
 wrong_uses : List (List (List ℕ))
@@ -120,5 +120,5 @@ wrong_uses =
     ∷ []
 
 all_refused : list_all (λ words. is_none (request_of words)) wrong_uses ≡ true
-unfolding request_of run_asked check_asked demo_asked voxels_asked tracer_asked run_app check_app demo_app voxels_app tracer_app run_of check_of demo_of voxels_of tracer_of choice_of number_of numbers_of rate_of clap_on_literals wrong_uses
+unfolding request_of read_by run_app check_app demo_app voxels_app tracer_app run_of check_of demo_of voxels_of tracer_of choice_of number_of numbers_of rate_of clap_on_literals wrong_uses
 all_refused = refl

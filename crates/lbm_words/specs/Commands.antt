@@ -3,6 +3,8 @@ use Rattle.std.specs.Prelude.{true, List, [], ◌∷◌, ◌++◌, map, Some, co
 use Rattle.clap.specs.Walk.{Rule, Text}
 use Rattle.clap.specs.Simple.{App, new_app, new_rule, on_top}
 use Rattle.clap.specs.declared.builder.action.ArgAction.TheVariants.{Set}
+use Rattle.lbm_words.specs.declared.commands.CommandKind.{CommandKind}
+use Rattle.lbm_words.specs.declared.commands.CommandKind.TheVariants.{Run, Check, Demo, Voxels, Tracer}
 
 -- a positional word, which has to be there
 abbrev pub positional : Text → Rule
@@ -50,3 +52,11 @@ unfoldable pub tracer_app : App
 tracer_app =
     command_of (codes "tracer") (codes "case" ∷ codes "steps" ∷ codes "out" ∷ codes "trace" ∷ codes "amount" ∷ codes "cell" ∷ [])
     (choice_options ++ codes "format" ∷ codes "rate" ∷ [])
+
+-- a command of the program
+abbrev pub app_for : CommandKind → App
+app_for Run = run_app
+app_for Check = check_app
+app_for Demo = demo_app
+app_for Voxels = voxels_app
+app_for Tracer = tracer_app

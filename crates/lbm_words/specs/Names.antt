@@ -1,10 +1,22 @@
--- The names of the patterns and of the formats.
+-- The names of the commands, of the patterns and of the formats.
 use Rattle.std.specs.Prelude.{ℕ, List, codes, if◌then◌else◌, Option, Some, None}
 use Rattle.std.specs.Str.{bytes_eq}
 use Rattle.lbm_vtk.specs.declared.Format.{Format}
 use Rattle.lbm_vtk.specs.declared.Format.TheVariants.{Ascii, Binary}
+use Rattle.lbm_words.specs.declared.commands.CommandKind.{CommandKind}
+use Rattle.lbm_words.specs.declared.commands.CommandKind.TheVariants as commands
 use Rattle.lbm_words.specs.declared.request.PatternKind.{PatternKind}
 use Rattle.lbm_words.specs.declared.request.PatternKind.TheVariants.{Two, Swap, Grid, Aa, Tiles}
+
+-- the command of a name
+abbrev pub command_named : List ℕ → Option CommandKind
+command_named name =
+    if bytes_eq name (codes "run") then Some commands.Run
+    else if bytes_eq name (codes "check") then Some commands.Check
+    else if bytes_eq name (codes "demo") then Some commands.Demo
+    else if bytes_eq name (codes "voxels") then Some commands.Voxels
+    else if bytes_eq name (codes "tracer") then Some commands.Tracer
+    else None
 
 -- the pattern of a name
 abbrev pub pattern_named : List ℕ → Option PatternKind

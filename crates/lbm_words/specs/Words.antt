@@ -9,14 +9,16 @@ use Rattle.clap.specs.Matches.{found_of}
 use Rattle.clap.specs.declared.parser.matches.ArgMatches.{ArgMatches}
 use Rattle.lbm_vtk.specs.declared.Format.{Format}
 use Rattle.lbm_vtk.specs.declared.Format.TheVariants.{Ascii}
+use Rattle.lbm_words.specs.declared.commands.CommandKind.{CommandKind}
+use Rattle.lbm_words.specs.declared.commands.CommandKind.TheVariants as commands
 use Rattle.lbm_words.specs.declared.request.PatternKind.TheVariants.{Aa}
 use Rattle.lbm_model.specs.Limits.{most_steps}
 use Rattle.lbm_cell.specs.Collision.{RelaxationRates, rates}
 use Rattle.lbm_number.specs.Number.{number_of}
 use Rattle.lbm_words.specs.Numbers.{number_between, numbers_of}
-use Rattle.lbm_words.specs.Names.{pattern_named, format_named}
+use Rattle.lbm_words.specs.Names.{command_named, pattern_named, format_named}
 use Rattle.lbm_words.specs.Rate.{rate_of}
-use Rattle.lbm_words.specs.Commands.{run_app, check_app, demo_app, voxels_app, tracer_app}
+use Rattle.lbm_words.specs.Commands.{app_for}
 use Rattle.lbm_words.specs.Request.{Choice, Run, Request, run, check, demo, voxels, tracer, most_amount}
 
 -- what is read goes on to f, and a refusal ends the reading
@@ -141,29 +143,19 @@ rows_in matches = rows_of (found_of matches)
 abbrev pub taken : App → List Text → Option (List Row)
 taken app words = if is_empty (fault_of app words) then Some (matches_of app words) else None
 
+-- what the values of a command ask for
+abbrev pub asked : CommandKind → List Row → Option Request
+asked commands.Run rows = option_map run (run_of rows)
+asked commands.Check rows = check_of rows
+asked commands.Demo rows = demo_of rows
+asked commands.Voxels rows = voxels_of rows
+asked commands.Tracer rows = tracer_of rows
+
 -- what the words ask for as words of a command
-unfoldable pub run_asked : List Text → Option Request
-run_asked words = option_map run (taken run_app words >>= run_of)
-
-unfoldable pub check_asked : List Text → Option Request
-check_asked words = taken check_app words >>= check_of
-
-unfoldable pub demo_asked : List Text → Option Request
-demo_asked words = taken demo_app words >>= demo_of
-
-unfoldable pub voxels_asked : List Text → Option Request
-voxels_asked words = taken voxels_app words >>= voxels_of
-
-unfoldable pub tracer_asked : List Text → Option Request
-tracer_asked words = taken tracer_app words >>= tracer_of
+unfoldable pub read_by : CommandKind → List Text → Option Request
+read_by kind words = taken (app_for kind) words >>= asked kind
 
 -- the first word is the command; the words of the command begin with it
 unfoldable pub request_of : List Text → Option Request
 request_of [] = None
-request_of (name ∷ rest) =
-    if bytes_eq name (codes "run") then run_asked (name ∷ rest)
-    else if bytes_eq name (codes "check") then check_asked (name ∷ rest)
-    else if bytes_eq name (codes "demo") then demo_asked (name ∷ rest)
-    else if bytes_eq name (codes "voxels") then voxels_asked (name ∷ rest)
-    else if bytes_eq name (codes "tracer") then tracer_asked (name ∷ rest)
-    else None
+request_of (name ∷ rest) = command_named name >>= λ kind. read_by kind (name ∷ rest)

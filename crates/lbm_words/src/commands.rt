@@ -2,10 +2,25 @@
 
 ghost use Rattle.std.specs.Prelude.{◌≡◌, map, false, IfOk};
 ghost use Rattle.clap.specs.Words.{app_of, rule_of};
-ghost use Rattle.lbm_words.specs.Commands.{positional, option, with_rules, command_of, run_options, run_app, check_app, demo_app, voxels_app, tracer_app};
+ghost use Rattle.lbm_words.specs.Commands.{positional, option, with_rules, command_of, run_options, run_app, check_app, demo_app, voxels_app, tracer_app, app_for};
 
 use clap::{Arg, ArgAction, Command};
 use std::alloc::{AllocError, Global};
+
+/// The commands of the program.
+#[derive(Clone, Copy)]
+pub(crate) enum CommandKind {
+    /// A run of a case.
+    Run,
+    /// A check of a case.
+    Check,
+    /// A run of a generated case.
+    Demo,
+    /// A run of a case in the geometry of a voxel file.
+    Voxels,
+    /// A run of a case with a tracer in its flow.
+    Tracer,
+}
 
 /// A positional word, which has to be there.
 fn positional<'a>(alloc: Global, name: &'a str) -> Arg<'a>
@@ -85,7 +100,7 @@ fn with_run_options<'a>(
 
 /// `run CASE STEPS OUT`.
 #[tactic(auto, unfolding(crate::specs::Commands::run_app))]
-pub(crate) fn run_command<'a>(alloc: Global) -> Result<Command<'a>, AllocError>
+fn run_command<'a>(alloc: Global) -> Result<Command<'a>, AllocError>
     ensures { IfOk result (λ command. app_of command ≡ run_app) }
 {
     with_run_options(alloc, "run", &["case", "steps", "out"])
@@ -93,7 +108,7 @@ pub(crate) fn run_command<'a>(alloc: Global) -> Result<Command<'a>, AllocError>
 
 /// `check CASE`.
 #[tactic(auto, unfolding(crate::specs::Commands::check_app))]
-pub(crate) fn check_command<'a>(alloc: Global) -> Result<Command<'a>, AllocError>
+fn check_command<'a>(alloc: Global) -> Result<Command<'a>, AllocError>
     ensures { IfOk result (λ command. app_of command ≡ check_app) }
 {
     command_of(alloc, "check", &["case"], &[])
@@ -101,7 +116,7 @@ pub(crate) fn check_command<'a>(alloc: Global) -> Result<Command<'a>, AllocError
 
 /// `demo N STEPS OUT`.
 #[tactic(auto, unfolding(crate::specs::Commands::demo_app))]
-pub(crate) fn demo_command<'a>(alloc: Global) -> Result<Command<'a>, AllocError>
+fn demo_command<'a>(alloc: Global) -> Result<Command<'a>, AllocError>
     ensures { IfOk result (λ command. app_of command ≡ demo_app) }
 {
     let options = ["pattern", "workers", "cut", "tile", "save", "format"];
@@ -110,7 +125,7 @@ pub(crate) fn demo_command<'a>(alloc: Global) -> Result<Command<'a>, AllocError>
 
 /// `voxels FILE CASE STEPS OUT`.
 #[tactic(auto, unfolding(crate::specs::Commands::voxels_app))]
-pub(crate) fn voxels_command<'a>(alloc: Global) -> Result<Command<'a>, AllocError>
+fn voxels_command<'a>(alloc: Global) -> Result<Command<'a>, AllocError>
     ensures { IfOk result (λ command. app_of command ≡ voxels_app) }
 {
     with_run_options(alloc, "voxels", &["file", "case", "steps", "out"])
@@ -118,10 +133,23 @@ pub(crate) fn voxels_command<'a>(alloc: Global) -> Result<Command<'a>, AllocErro
 
 /// `tracer CASE STEPS OUT TRACE AMOUNT CELL`.
 #[tactic(auto, unfolding(crate::specs::Commands::tracer_app))]
-pub(crate) fn tracer_command<'a>(alloc: Global) -> Result<Command<'a>, AllocError>
+fn tracer_command<'a>(alloc: Global) -> Result<Command<'a>, AllocError>
     ensures { IfOk result (λ command. app_of command ≡ tracer_app) }
 {
     let positionals = ["case", "steps", "out", "trace", "amount", "cell"];
     let options = ["pattern", "workers", "cut", "tile", "format", "rate"];
     command_of(alloc, "tracer", &positionals, &options)
+}
+
+/// A command of the program, as `clap` reads it.
+pub(crate) fn command_for<'a>(alloc: Global, kind: CommandKind) -> Result<Command<'a>, AllocError>
+    ensures { IfOk result (λ command. app_of command ≡ app_for kind) }
+{
+    match kind {
+        CommandKind::Run => run_command(alloc),
+        CommandKind::Check => check_command(alloc),
+        CommandKind::Demo => demo_command(alloc),
+        CommandKind::Voxels => voxels_command(alloc),
+        CommandKind::Tracer => tracer_command(alloc),
+    }
 }

@@ -4,10 +4,11 @@ ghost use Rattle.std.specs.Prelude.{◌≡◌, map, string_bytes, true, IfOk};
 ghost use Rattle.clap.specs.Words.{app_of, is_simple_and_free};
 ghost use Rattle.lbm_words.specs.Ends.{Gives};
 ghost use Rattle.lbm_words.specs.Request.{run_view, request_view, IsRequest};
-ghost use Rattle.lbm_words.specs.Words.{rows_in, taken, run_of, check_of, demo_of, voxels_of, tracer_of, run_asked, check_asked, demo_asked, voxels_asked, tracer_asked, request_of};
+ghost use Rattle.lbm_words.specs.Words.{rows_in, taken, run_of, check_of, demo_of, voxels_of, tracer_of, asked, read_by, request_of};
 
-use crate::commands::{check_command, demo_command, run_command, tracer_command, voxels_command};
+use crate::commands::{CommandKind, command_for};
 use crate::end::WordsEnd;
+use crate::names::command_named;
 use crate::request::{Check, Demo, Request, Run, Tracer, Voxels};
 use crate::values::{
     cell_of, choice_of, format_of, is_other, required_number, steps_of, text_of, tracer_rate_of,
@@ -131,59 +132,39 @@ fn tracer_of<'a>(alloc: Global, matches: &ArgMatches<'a>) -> Result<Request<'a>,
     }))
 }
 
-/// The run that the words ask for.
-#[tactic(auto, unfolding(crate::specs::Words::run_asked))]
-fn read_run<'a>(alloc: Global, words: &'a [String]) -> Result<Request<'a>, WordsEnd>
-    ensures { Gives request_view result (run_asked (map string_bytes words.now)) }
+/// What the values of a command ask for.
+fn asked<'a>(
+    alloc: Global,
+    kind: CommandKind,
+    matches: &ArgMatches<'a>,
+) -> Result<Request<'a>, WordsEnd>
+    ensures { Gives request_view result (asked kind (rows_in matches.now)) }
 {
-    let command = run_command(alloc)?;
-    let matches = taken(command, words)?;
-    Ok(Request::Run(run_of(alloc, &matches)?))
+    match kind {
+        CommandKind::Run => Ok(Request::Run(run_of(alloc, matches)?)),
+        CommandKind::Check => check_of(matches),
+        CommandKind::Demo => demo_of(alloc, matches),
+        CommandKind::Voxels => voxels_of(alloc, matches),
+        CommandKind::Tracer => tracer_of(alloc, matches),
+    }
 }
 
-/// The check that the words ask for.
-#[tactic(auto, unfolding(crate::specs::Words::check_asked))]
-fn read_check<'a>(alloc: Global, words: &'a [String]) -> Result<Request<'a>, WordsEnd>
-    ensures { Gives request_view result (check_asked (map string_bytes words.now)) }
+/// What the words ask for as words of a command.
+#[tactic(auto, unfolding(crate::specs::Words::read_by))]
+fn read_by<'a>(
+    alloc: Global,
+    kind: CommandKind,
+    words: &'a [String],
+) -> Result<Request<'a>, WordsEnd>
+    ensures { Gives request_view result (read_by kind (map string_bytes words.now)) }
 {
-    let command = check_command(alloc)?;
+    let command = command_for(alloc, kind)?;
     let matches = taken(command, words)?;
-    check_of(&matches)
-}
-
-/// The run of a generated case that the words ask for.
-#[tactic(auto, unfolding(crate::specs::Words::demo_asked))]
-fn read_demo<'a>(alloc: Global, words: &'a [String]) -> Result<Request<'a>, WordsEnd>
-    ensures { Gives request_view result (demo_asked (map string_bytes words.now)) }
-{
-    let command = demo_command(alloc)?;
-    let matches = taken(command, words)?;
-    demo_of(alloc, &matches)
-}
-
-/// The run in the geometry of a voxel file that the words ask for.
-#[tactic(auto, unfolding(crate::specs::Words::voxels_asked))]
-fn read_voxels<'a>(alloc: Global, words: &'a [String]) -> Result<Request<'a>, WordsEnd>
-    ensures { Gives request_view result (voxels_asked (map string_bytes words.now)) }
-{
-    let command = voxels_command(alloc)?;
-    let matches = taken(command, words)?;
-    voxels_of(alloc, &matches)
-}
-
-/// The run with a tracer that the words ask for.
-#[tactic(auto, unfolding(crate::specs::Words::tracer_asked))]
-fn read_tracer<'a>(alloc: Global, words: &'a [String]) -> Result<Request<'a>, WordsEnd>
-    ensures { Gives request_view result (tracer_asked (map string_bytes words.now)) }
-{
-    let command = tracer_command(alloc)?;
-    let matches = taken(command, words)?;
-    tracer_of(alloc, &matches)
+    asked(alloc, kind, &matches)
 }
 
 /// What the words after the program's name ask for: the first one is the command. `Usage` is answered exactly where they
 /// ask for nothing that the program does.
-#[tactic(auto, unfolding(crate::specs::Words::request_of))]
 pub fn request_of<'a>(alloc: Global, words: &'a [String]) -> Result<Request<'a>, WordsEnd>
     // The request of the words, or `Usage` where they have none. Where memory ran out, nothing is said.
     ensures request { Gives request_view result (request_of (map string_bytes words.now)) }
@@ -192,12 +173,8 @@ pub fn request_of<'a>(alloc: Global, words: &'a [String]) -> Result<Request<'a>,
     let [name, ..] = words else {
         return Err(WordsEnd::Usage);
     };
-    match name.as_str() {
-        "run" => read_run(alloc, words),
-        "check" => read_check(alloc, words),
-        "demo" => read_demo(alloc, words),
-        "voxels" => read_voxels(alloc, words),
-        "tracer" => read_tracer(alloc, words),
-        _ => Err(WordsEnd::Usage),
+    match command_named(name.as_str()) {
+        Some(kind) => read_by(alloc, kind, words),
+        None => Err(WordsEnd::Usage),
     }
 }
